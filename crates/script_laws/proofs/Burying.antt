@@ -9,6 +9,7 @@ use Rattle.xp_words.specs.declared.reply.Refusal.TheVariants.{Dying, NoDomain, N
 use Rattle.xp_words.specs.declared.reply.Stop.{Stop}
 use Rattle.xp_words.specs.declared.reply.Stop.TheVariants.{Refused, Paused}
 use Rattle.xp_board.specs.Readings.{domain_of, has_now}
+use Rattle.xp_words.specs.declared.reply.Refusal.TheVariants as refusals
 use Rattle.xp_board.specs.Told.{Post, PortValue, told_word}
 use Rattle.step_maker.specs.Holds.{Rests}
 use Rattle.step_maker.specs.Moves.{Came}
@@ -16,7 +17,7 @@ use Rattle.step_maker.proofs.Coming.{came_post, came_trans}
 use Rattle.answer_laws.proofs.Shared.{alone_telling}
 use Rattle.replay_laws.specs.LeftAlone.{life}
 use Rattle.replay_laws.proofs.Keeping.{left_alone}
-use Rattle.domain_destroy.specs.Asking.{of_domain}
+use Rattle.domain_destroy.specs.Asking.{of_domain, IsDestroyStop}
 use Rattle.domain_destroy.specs.Course.{LeftFrame, left_lines}
 use Rattle.script_law.specs.Destroying.{buried, destroy, destroy_refusal, stripped}
 use Rattle.script_law.specs.Repeats.{each_below}
@@ -36,6 +37,9 @@ use Rattle.script_laws.proofs.Settling.{owes_clean, stands_in}
 use Rattle.script_laws.proofs.Tasking.{Elements, Moving, owes_moved}
 use Rattle.script_laws.proofs.Tasks.{Comes, IsTaskAnswered, Lives, OwesT}
 use Rattle.script_laws.proofs.Single.{done_once, refused_once}
+use Rattle.script_laws.proofs.Knowing.{shows_for}
+use Rattle.shown_words.specs.Shown.{ShowsSettled}
+use Rattle.std.specs.Prelude.{IfErr}
 
 -- ---- lines of frames that are left
 pub left_are_lines : (op : ℕ) (xs : List LeftFrame) (ls : List Line) → AreLeft xs ls → AreLines op (left_lines op xs) ls
@@ -123,18 +127,25 @@ module _ (l : Laws) (neither : NeitherLostNorBusy) (v0 : PortValue) (real : (who
     abbrev pub DiesComes : List LogLine → Result ℕ Stop → Type 0
     DiesComes all y = Comes l.stays neither v0 (λ to made w. Dies x n to made w a) n to all w a y
 
-    comes_so : (all : List LogLine) (y : Result ℕ Stop) → to.done ≡ done_behind at.done y → ComesDying w x n to.place [] all g.outcome y → DiesComes all y
-    comes_so all (Ok left) is c =
+    -- a refusal of it shows no word of a frame
+    shows_none : (y : Refusal) → IsDestroyStop (Refused y) → ShowsSettled y
+    shows_none (refusals.NoDomain) kind = tt
+    shows_none (refusals.NoPrivilege a b) kind = tt
+    shows_none (refusals.Dying a b) kind = tt
+    shows_none _ kind = absurd kind
+
+    comes_so : (all : List LogLine) (y : Result ℕ Stop) → IfErr y IsDestroyStop → to.done ≡ done_behind at.done y → ComesDying w x n to.place [] all g.outcome y → DiesComes all y
+    comes_so all (Ok left) kind is c =
         subst (IsTaskAnswered l.stays neither v0 n all w (reply_of to.done left None)) (sym (done_once g.outcome g.outcome.refusal c.fine) ∙ g.is)
         (record { lines = subst (λ ls. AreLines n ls g.outcome.lines) (sym c.logged) (left_are_lines n c.made g.outcome.lines c.lines); replies = record { done = is; value = c.value; refusal = tt }; owes = owed g.outcome.left (nothing c.clean) g.ends })
-    comes_so all (Err (Refused y)) is c =
+    comes_so all (Err (Refused y)) kind is c =
         subst (IsTaskAnswered l.stays neither v0 n all w (reply_of to.done 0 (Some y))) (sym (refused_once g.outcome g.outcome.refusal c.0.why c.0.is) ∙ g.is)
         (record {
           lines = subst (λ ls. AreLines n ls g.outcome.lines) (sym c.1) (subst (AreLines n []) (sym c.0.none) tt);
-          replies = record { done = is ∙ g.unset; value = refl; refusal = c.0.same };
+          replies = record { done = is ∙ g.unset; value = refl; refusal = (c.0.same, shows_for y c.0.why (shows_none y kind)) };
           owes = owed g.outcome.left c.0.owes g.ends;
         })
-    comes_so all (Err (Paused p)) is c =
+    comes_so all (Err (Paused p)) kind is c =
         record {
           value = c.s;
           owes = owed c.s c.owes (alive_behind c.s c.owes c.apart);
@@ -151,7 +162,7 @@ module _ (l : Laws) (neither : NeitherLostNorBusy) (v0 : PortValue) (real : (who
         let clean = owes_clean v g.value rests settled g.owes.owes in (
           left_lines n d.more,
           d.lines,
-          comes_so (made ++ left_lines n d.more) r done_is
+          comes_so (made ++ left_lines n d.more) r d.kinds done_is
               (by_course l.stays neither l.release l.paused v g.value clean x n at.place [] made g.outcome (subst (λ (q : Post). GoesOnDying (record { machine = q.machine; domain = domain_of q.machine q.vcpu }) x n at.place [] made g.value g.outcome) (sym post) g.goes_on)
               w to.place (made ++ left_lines n d.more) d.more asked r refl d.rests d.serves d.course),
         )

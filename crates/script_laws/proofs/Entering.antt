@@ -41,6 +41,7 @@ use Rattle.script_laws.proofs.Owning.{found_had, found_none, owners_alike}
 use Rattle.script_laws.proofs.Premises.{fair_on}
 use Rattle.script_laws.proofs.Tasking.{Elements}
 use Rattle.script_laws.proofs.Tasks.{Lives, MayName, own, owners_of}
+use Rattle.script_laws.proofs.Knowing.{IsKnown, ShownLaws, known_by, known_numbers, stands_alone}
 
 -- ---- the laws of one element
 abbrev pub PairLaw : Type 0
@@ -96,7 +97,7 @@ kept_stands o Misaligned v x k = absurd k
 kept_stands o Unknown v x k = absurd k
 
 -- ---- the frame
-module _ (l : Laws) (neither : NeitherLostNorBusy) (kept_on : KeptOn) (pair : PairLaw) (at : AtLaw) (v0 : PortValue) (real : (whose v0).domain < length v0.post.machine.page_limit) where
+module _ (l : Laws) (neither : NeitherLostNorBusy) (kept_on : KeptOn) (pair : PairLaw) (at : AtLaw) (shown : ShownLaws) (v0 : PortValue) (real : (whose v0).domain < length v0.post.machine.page_limit) where
   abbrev KeepsPair : Owners → Pair → PortValue → Solo → Type 0
   KeepsPair o p v x = KeepsWrite o (pairs.element_of p) v x
 
@@ -109,14 +110,20 @@ module _ (l : Laws) (neither : NeitherLostNorBusy) (kept_on : KeptOn) (pair : Pa
         goes_on = λ v w x on k. kept_on o (pairs.element_of p) v w x on k;
       }
 
+  either_stands : (foreign : ℕ) (p : Pair) (v : PortValue) (s : Solo) → Clean v s ⊎ KeepsPair (owners_of l.stays neither v0 foreign) p v s → Stands v s
+  either_stands foreign p v s (inl clean) = clean.stands
+  either_stands foreign p v s (inr kept) = (pair_keeping foreign p).stands v s kept
+
   pair_law : (foreign : ℕ) (p : Pair) →
       LawOf l.stays neither v0 (MayName l.stays neither v0 foreign) (λ v w asked r. Updates (owners_of l.stays neither v0 foreign) (pairs.element_of p) v w asked r) (KeepsPair (owners_of l.stays neither v0 foreign) p) (pair_alone (own l.stays neither v0) (owners_of l.stays neither v0 foreign) p)
   pair_law foreign p v w s answers answer ahead start settled rests fair fits =
       let post = came_post v0 v ahead.came in
       let o = owners_of l.stays neither v0 foreign in
-      let alive = tables_alive v0.post.machine s (whose v0).domain real ahead.good.0 foreign ahead.good.1 in
+      let alive = tables_alive v0.post.machine s (whose v0).domain real ahead.good.0 foreign ahead.good.1 in (
       subst (λ (q : Post). Comes (KeepsWrite o (pairs.element_of p)) w s (updated (record { machine = q.machine; domain = domain_of q.machine q.vcpu }) o (pairs.element_of p) s) answer) post
-      (pair v w s o (pairs.element_of p) answers answer (subst (λ (q : Post). o.tables < length q.machine.page_limit) (sym post) alive.real) alive.lives start (fair_on v0 v w ahead.came fair).fair fits)
+      (pair v w s o (pairs.element_of p) answers answer (subst (λ (q : Post). o.tables < length q.machine.page_limit) (sym post) alive.real) alive.lives start (fair_on v0 v w ahead.came fair).fair fits),
+      known_by (pair_alone (own l.stays neither v0) o p s) answer (λ x is. shown.words v w o (pairs.element_of p) answers x (stands_alone v s (either_stands foreign p v s start)) (subst (Updates o (pairs.element_of p) v w answers) is fits)),
+      )
 
   -- ---- an update by address
   module _ (foreign va word flags : ℕ) where
@@ -133,9 +140,10 @@ module _ (l : Laws) (neither : NeitherLostNorBusy) (kept_on : KeptOn) (pair : Pa
     abbrev plain_at : Machine → Owners → Solo → Option Refusal → Outcome
     plain_at n a s r = allowed r s (update_entry n a va word s (table_at n va s (s.own 0)))
 
-    refused_comes : (v w : PortValue) (s : Solo) (r : Option Refusal) (y : Refusal) → r ≡ Some y → Clean w s → Comes (λ u t. ⊥) w s (plain_at v0.post.machine o s r) (Err (Refused y))
+    refused_comes : (v w : PortValue) (s : Solo) (r : Option Refusal) (y : Refusal) → r ≡ Some y → Clean w s → Comes (λ u t. ⊥) w s (plain_at v0.post.machine o s r) (Err (Refused y)) × IsKnown {A = Unit {0}} (plain_at v0.post.machine o s r) (Err (Refused y))
     refused_comes v w s r y is clean =
-        subst (λ c. Comes (λ u t. ⊥) w s (plain_at v0.post.machine o s c) (Err (Refused y))) (sym is) (record { why = Numbers y; is = refl; same = refl; none = refl; owes = nothing clean })
+        subst (λ c. Comes (λ u t. ⊥) w s (plain_at v0.post.machine o s c) (Err (Refused y)) × IsKnown {A = Unit {0}} (plain_at v0.post.machine o s c) (Err (Refused y))) (sym is)
+        (record { why = Numbers y; is = refl; same = refl; none = refl; owes = nothing clean }, known_numbers y y (plain_at v0.post.machine o s (Some y)) refl)
 
     far_is : (s : Solo) → 65536 ≤ foreign → map_refusal (own l.stays neither v0) foreign va flags s ≡ Some BadRange
     far_is s far = let b : nat_le (2 ^ 16) foreign ≡ true = grind (arith, nat_tests) in rw b refl
@@ -157,15 +165,18 @@ module _ (l : Laws) (neither : NeitherLostNorBusy) (kept_on : KeptOn) (pair : Pa
       at_v0 r is = subst (λ (q : Post). refuse_owners q.machine (of_domains s) (whose v0).domain foreign ≡ r) post is
 
       owned_comes : (u w : PortValue) (a : Owners) (answers : List Bool) (answer : Result (Unit {0}) Stop) → foreign < 65536 → FindsOwners v u (whose v0).domain foreign (Ok a) → is_bad_flags flags ≡ false → UpdatesAt a va word u w answers answer → ClockGoesOn u w →
-          Comes (λ u t. ⊥) w s (map_word (own l.stays neither v0) foreign va word flags s) answer
+          Comes (λ u t. ⊥) w s (map_word (own l.stays neither v0) foreign va word flags s) answer × IsKnown (map_word (own l.stays neither v0) foreign va word flags s) answer
       owned_comes u w a answers answer near finds fine updates goes =
           let had = found_had v u s clean.stands (whose v0).domain foreign low a finds in
           let on = found_alike u (Ok a) finds in
           let to_u = came_post v u on.came ∙ post in
-          let comes = unpaused_comes (λ u t. ⊥) w s (allowed (walk_refusal va) s (update_entry u.post.machine a va word s (table_at u.post.machine va s (s.own 0)))) answer (at u w s a va word answers answer (clean_on l.stays v u s on clean) goes updates) in
+          let there = clean_on l.stays v u s on clean in
+          let comes = unpaused_comes (λ u t. ⊥) w s (allowed (walk_refusal va) s (update_entry u.post.machine a va word s (table_at u.post.machine va s (s.own 0)))) answer (at u w s a va word answers answer there goes updates) in (
           subst (λ r. Comes (λ u t. ⊥) w s (plain_at v0.post.machine o s r) answer) (sym (named_is s false near (at_v0 None had.0) fine))
           (subst (λ b. Comes (λ u t. ⊥) w s (plain_at v0.post.machine b s (walk_refusal va)) answer) had.1
-          (subst (λ (q : Post). Comes (λ u t. ⊥) w s (plain_at q.machine a s (walk_refusal va)) answer) to_u comes))
+          (subst (λ (q : Post). Comes (λ u t. ⊥) w s (plain_at q.machine a s (walk_refusal va)) answer) to_u comes)),
+          known_by (map_word (own l.stays neither v0) foreign va word flags s) answer (λ x is. shown.mapped u w a va word answers x (stands_alone u s there.stands) (subst (UpdatesAt a va word u w answers) is updates)),
+          )
 
     map_law : LawOf l.stays neither v0 (Lives l.stays neither v0) (λ v w asked r. UpdatesWord (whose v0).domain foreign va word flags v w asked r) (λ u t. ⊥) (map_word (own l.stays neither v0) foreign va word flags)
     map_law v w s answers answer ahead (inr kept) settled rests fair updates = absurd kept
@@ -191,4 +202,5 @@ module _ (l : Laws) (neither : NeitherLostNorBusy) (kept_on : KeptOn) (pair : Pa
         pair_law = pair_law;
         map_law = map_law;
         extent_law = extent;
+        shown = shown;
       }

@@ -15,7 +15,6 @@ use Rattle.course_laws.proofs.Awaiting.{AloneStays, NeitherLostNorBusy}
 use Rattle.script_law.specs.Elements.{ext_alone}
 use Rattle.script_law.specs.Scripts.{Answered, answered, in_order, listed, logged_behind, refused}
 use Rattle.script_law.specs.Values.{Line, Outcome, Solo}
-use Rattle.solo_ports.specs.Coming.{IsWhy}
 use Rattle.solo_ports.specs.Standing.{whose}
 use Rattle.vcpu_turn.specs.Cpus.{reply_of}
 use Rattle.vcpu_turn.specs.Ext.{ExtFits, FitsExt, Performs, awaited_for}
@@ -25,7 +24,7 @@ use Rattle.vcpu_turn.specs.Settling.{SettlesFirst}
 use Rattle.vcpu_turn.specs.Working.{valued}
 use Rattle.vcpu_turn.specs.declared.cpu.Progress.{Progress}
 use Rattle.vcpu_turn.proofs.Hindering.{exts_came}
-use Rattle.script_laws.specs.Logged.{AreLines, IsReply}
+use Rattle.script_laws.specs.Logged.{AreLines, IsReply, IsShown}
 use Rattle.script_laws.proofs.Items.{IsKeeping, LawOf}
 use Rattle.script_laws.proofs.Listed.{KeptIn, gives_none, list_lemmas, no_lines, plain_list}
 use Rattle.script_laws.proofs.Lists.{ListComes, ListLemmas, gave_did, gave_on, list_comes}
@@ -81,16 +80,16 @@ module _ (stays : AloneStays) (neither : NeitherLostNorBusy) (v0 : PortValue) (K
     abbrev gives : (k : ℕ) (u w : PortValue) (asked : List Bool) (r : Result (Unit {0}) Stop) → fits k u w asked r → List LogLine
     gives = gives_none fits
 
-    lemmas : ListLemmas (plain_list (λ k e s. one e s)) list IsWhy (FairFrom v0) OwesE Kept Kept fits gives (AreLines op)
+    lemmas : ListLemmas (plain_list (λ k e s. one e s)) list IsShown (FairFrom v0) OwesE Kept Kept fits gives (AreLines op)
     lemmas =
         list_lemmas stays neither v0 (Lives stays neither v0) (lives_on v0) op list by KeepsExt one fits keeping (λ k e at. law e (awaited_for from awaited k)) (λ k u w asked r f. exts_came (whose v0).domain list from awaited k u w asked r f)
         (λ e s. performs_keep s (own stays neither v0) (ext_element e) s (itself s)) fits_some
 
-    none_did : (first : ℕ) (v : PortValue) (to : ℕ) (w : PortValue) (answers : List Bool) (did : DidItems fits (length list) first v to w answers) → gave_did (plain_list (λ k e s. one e s)) list IsWhy (FairFrom v0) OwesE Kept Kept fits gives (AreLines op) first v to w answers did ≡ []
+    none_did : (first : ℕ) (v : PortValue) (to : ℕ) (w : PortValue) (answers : List Bool) (did : DidItems fits (length list) first v to w answers) → gave_did (plain_list (λ k e s. one e s)) list IsShown (FairFrom v0) OwesE Kept Kept fits gives (AreLines op) first v to w answers did ≡ []
     none_did first v _ _ _ lists.DidItems.none = refl
     none_did first v _ _ _ (lists.DidItems.more k u w answers asked did fit less) = append-nil _ ∙ none_did first v k u answers did
 
-    none_gave : (first : ℕ) (v : PortValue) (to : ℕ) (w : PortValue) (answers : List Bool) (r : Result (Unit {0}) Stop) (on : WorksOn fits (length list) first v to w answers r) → gave_on (plain_list (λ k e s. one e s)) list IsWhy (FairFrom v0) OwesE Kept Kept fits gives (AreLines op) first v to w answers r on ≡ []
+    none_gave : (first : ℕ) (v : PortValue) (to : ℕ) (w : PortValue) (answers : List Bool) (r : Result (Unit {0}) Stop) (on : WorksOn fits (length list) first v to w answers r) → gave_on (plain_list (λ k e s. one e s)) list IsShown (FairFrom v0) OwesE Kept Kept fits gives (AreLines op) first v to w answers r on ≡ []
     none_gave first v _ _ _ _ (lists.WorksOn.all_done at) = refl
     none_gave first v _ _ _ _ (lists.WorksOn.last_done k u w answers asked did fit at) = append-nil _ ∙ none_did first v k u answers did
     none_gave first v _ _ _ _ (lists.WorksOn.due k u w answers asked did fit less) = append-nil _ ∙ none_did first v k u answers did
@@ -103,7 +102,7 @@ module _ (stays : AloneStays) (neither : NeitherLostNorBusy) (v0 : PortValue) (K
 
     -- ---- the work of a turn
     ends_so : (to : Progress) (made : List LogLine) (w : PortValue) (b : Answered) (r : Result (Unit {0}) Stop) (new : List Line) → made ≡ [] → length list ≤ 512 → new ≡ [] →
-        ListComes (plain_list (λ k e s. one e s)) list IsWhy (FairFrom v0) OwesE Kept Kept fits gives (AreLines op) ([] ++ new) b to.done w r → Comes stays neither v0 (λ to made w. ExtGoing to made w b) op to made w b (valued r)
+        ListComes (plain_list (λ k e s. one e s)) list IsShown (FairFrom v0) OwesE Kept Kept fits gives (AreLines op) ([] ++ new) b to.done w r → Comes stays neither v0 (λ to made w. ExtGoing to made w b) op to made w b (valued r)
     unfolding plain_list
     ends_so to made w b (Ok done) new none few bare (t, is, owes) =
         answers_so made w (reply_of to.done 0 None) (answered to.done 0 None new t) b (sym is) none bare (record { done = refl; value = refl; refusal = tt }) owes
@@ -116,13 +115,13 @@ module _ (stays : AloneStays) (neither : NeitherLostNorBusy) (v0 : PortValue) (K
         Comes stays neither v0 (λ to made w. ExtGoing to made w b) op to made w b (valued r)
     unfolding plain_list
     list_work to made v w b answers r none few on fair t comes pending =
-        let k = list_comes (plain_list (λ k e s. one e s)) list IsWhy (FairFrom v0) OwesE Kept Kept fits gives (AreLines op) lemmas [] b from v to.done w answers r on fair (λ f. (t, comes, pending)) in
+        let k = list_comes (plain_list (λ k e s. one e s)) list IsShown (FairFrom v0) OwesE Kept Kept fits gives (AreLines op) lemmas [] b from v to.done w answers r on fair (λ f. (t, comes, pending)) in
         ends_so to made w b r k.0 none few (no_new _ k.0 (none_gave from v to.done w answers r on) k.1) k.2
 
     whole_so : (to : Progress) (made : List LogLine) (v w : PortValue) (b : Answered) (r : Result (Unit {0}) Stop) (g : Begins stays neither v0 made v b (listed one list)) → 512 < length list → w ≡ v → to.done ≡ 0 → r ≡ Err (Refused BatchLong) → Comes stays neither v0 (λ to made w. ExtGoing to made w b) op to made w b (valued r)
     whole_so to made v w b r g more same at0 is =
         subst (λ y. Comes stays neither v0 (λ to made w. ExtGoing to made w b) op to made w b (valued y)) (sym is)
-        (answers_so made w (reply_of to.done 0 (Some BatchLong)) (refused BatchLong g.value) b (sym (listed_long g.value more) ∙ g.is) g.nothing refl (record { done = at0; value = refl; refusal = refl }) (subst (λ y. OwesE y g.value) (sym same) g.owes))
+        (answers_so made w (reply_of to.done 0 (Some BatchLong)) (refused BatchLong g.value) b (sym (listed_long g.value more) ∙ g.is) g.nothing refl (record { done = at0; value = refl; refusal = (refl, tt) }) (subst (λ y. OwesE y g.value) (sym same) g.owes))
 
     pub ext_work : (at to : Progress) (made : List LogLine) (v w : PortValue) (b : Answered) (answers : List Bool) (r : Result (Unit {0}) Stop) → at.done ≡ from → WorksThrough fits (length list) v from to.done w answers r → FairFrom v0 w → ExtGoing at made v b →
         Comes stays neither v0 (λ to made w. ExtGoing to made w b) op to made w b (valued r)

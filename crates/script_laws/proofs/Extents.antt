@@ -25,7 +25,6 @@ use Rattle.course_laws.proofs.Awaiting.{AloneStays, NeitherLostNorBusy}
 use Rattle.script_law.specs.Memory.{count_in, counted_in, done_before, extents_of, list_refusal, reserve}
 use Rattle.script_law.specs.Scripts.{Answered, answered, extents_by, in_order, logged_behind}
 use Rattle.script_law.specs.Values.{Line, Outcome, Solo, Whose}
-use Rattle.solo_ports.specs.Coming.{IsWhy}
 use Rattle.solo_ports.specs.Standing.{Clean, Fair, IsSettled, Owes, nothing, whose}
 use Rattle.solo_memory.specs.Extents.{ComesExtent, line_of}
 use Rattle.solo_memory.proofs.Extending.{settled_extent}
@@ -40,7 +39,7 @@ use Rattle.vcpu_turn.specs.declared.cpu.Progress.{Progress}
 use Rattle.vcpu_turn.proofs.Hindering.{extent_came}
 use Rattle.vcpu_turn.proofs.Listing.{did_on}
 use Rattle.vcpu_turn.proofs.GoingExtents.{lines_both}
-use Rattle.script_laws.specs.Logged.{AreLines}
+use Rattle.script_laws.specs.Logged.{AreLines, IsShown}
 use Rattle.script_laws.proofs.Items.{OwesF}
 use Rattle.script_laws.proofs.Listed.{lines_more, plain_list}
 use Rattle.script_laws.proofs.Lists.{ItemComes, ListComes, ListLemmas, list_comes}
@@ -49,6 +48,8 @@ use Rattle.script_laws.proofs.Premises.{FairFrom, fair_back, fair_on}
 use Rattle.script_laws.proofs.Settling.{owes_clean}
 use Rattle.script_laws.proofs.Tasks.{Comes, ExtentsGoing, IsTaskAnswered, Lives, own}
 use Rattle.script_laws.proofs.Untouched.{itself, reserve_keeps}
+use Rattle.script_laws.proofs.Knowing.{ShownLaws, shows_for, stands_alone}
+use Rattle.shown_words.specs.Shown.{ShowsSettled}
 
 -- the law of one extent
 abbrev pub ExtentLaw : Type 0
@@ -136,7 +137,7 @@ none_within : (from within k : ℕ) → within ≡ 0 → place_for from within k
 none_within from within k is = subst (λ j. place_for from j k ≡ 0) (sym is) (elim (cases_Bool (k == from)) [ inl same ↦ rw same refl | inr other ↦ rw other refl ])
 
 -- ---- one extent
-module _ (stays : AloneStays) (neither : NeitherLostNorBusy) (v0 : PortValue) (law : ExtentLaw) where
+module _ (stays : AloneStays) (neither : NeitherLostNorBusy) (v0 : PortValue) (law : ExtentLaw) (shown : ShownLaws) where
   abbrev owner : Whose
   owner = own stays neither v0
 
@@ -172,7 +173,7 @@ module _ (stays : AloneStays) (neither : NeitherLostNorBusy) (v0 : PortValue) (l
     Never k v s = ⊥
 
     abbrev Ends : ℕ → Solo → Outcome → List Block → PortValue → Result (Unit {0}) Stop → Type 0
-    Ends k s o gave w r = ItemComes (plain_list one) es IsWhy (FairFrom v0) Between Never Never fits gives Said k s o gave w r
+    Ends k s o gave w r = ItemComes (plain_list one) es IsShown (FairFrom v0) Between Never Never fits gives Said k s o gave w r
 
     begins_at : (k : ℕ) (e : Extent) (u w : PortValue) (asked : List Bool) (r : Result (Unit {0}) Stop) → slice_get es k ≡ Some e → (fit : fits k u w asked r) → whose u ≡ owner → Reserves (domain_of u.post.machine u.post.vcpu) (2 ^ order) e 0 u fit.left w (given_by fit.given r)
     begins_at k e u w asked r at fit same =
@@ -201,10 +202,13 @@ module _ (stays : AloneStays) (neither : NeitherLostNorBusy) (v0 : PortValue) (l
           settled = settled_extent u w owner.domain (2 ^ order) fit.extent (place_for from within k) fit.left (given_by fit.given r) fit.reserves b.settled;
         }
 
+    shows_one : (k : ℕ) (s : Solo) (u w : PortValue) (asked : List Bool) (x : Refusal) (fit : fits k u w asked (Err (Refused x))) → Between u s → ShowsSettled x
+    shows_one k s u w asked x fit b = shown.extents u w owner.domain (2 ^ order) fit.extent (place_for from within k) fit.left x (stands_alone u s (owes_clean u s b.rests b.settled b.owes.owes).stands) fit.reserves
+
     item_by : (k : ℕ) (e : Extent) (s : Solo) (u w : PortValue) (asked : List Bool) (r : Result (Unit {0}) Stop) → (fit : fits k u w asked r) → Between u s → ComesExtent call k w (one k e s) (given_by fit.given r) → Ends k s (one k e s) (gives k u w asked r fit) w r
     unfolding plain_list
     item_by k e s u w asked (Ok done) fit b c = (c.fine, subst (Said (block_at k fit.given)) (sym c.lines) (said_one op call k fit.given), between k e s u w asked (Ok done) fit b (nothing c.clean))
-    item_by k e s u w asked (Err (Refused x)) fit b c = (c.why, c.is, c.none, c.same, between k e s u w asked (Err (Refused x)) fit b c.owes)
+    item_by k e s u w asked (Err (Refused x)) fit b c = (c.why, c.is, c.none, (c.same, shows_for x c.why (shows_one k s u w asked x fit b)), between k e s u w asked (Err (Refused x)) fit b c.owes)
     item_by k e s u w asked (Err (Paused p)) fit b c = absurd c
 
     item : (k : ℕ) (e : Extent) (s : Solo) (u w : PortValue) (asked : List Bool) (r : Result (Unit {0}) Stop) → slice_get es k ≡ Some e → FairFrom v0 w → (fit : fits k u w asked r) → Between u s ⊎ ⊥ → Ends k s (one k e s) (gives k u w asked r fit) w r
@@ -214,7 +218,7 @@ module _ (stays : AloneStays) (neither : NeitherLostNorBusy) (v0 : PortValue) (l
     said_both : (bs cs : List Block) (ls ms : List Line) → Said bs ls → Said cs ms → Said (bs ++ cs) (ls ++ ms)
     said_both bs cs ls ms a b = subst (λ gs. AreLines op gs (ls ++ ms)) (sym (lines_both number bs cs)) (lines_more op (given_lines number bs) (given_lines number cs) ls ms a b)
 
-    extent_lemmas : ListLemmas (plain_list one) es IsWhy (FairFrom v0) Between Never Never fits gives Said
+    extent_lemmas : ListLemmas (plain_list one) es IsShown (FairFrom v0) Between Never Never fits gives Said
     unfolding plain_list
     extent_lemmas =
         record {
@@ -227,10 +231,10 @@ module _ (stays : AloneStays) (neither : NeitherLostNorBusy) (v0 : PortValue) (l
 
     -- ---- the list
     abbrev gave_in : (v : PortValue) (to : ℕ) (w : PortValue) (answers : List Bool) (r : Result (Unit {0}) Stop) → WorksOn fits (length es) from v to w answers r → List Block
-    gave_in v to w answers r works = listing.gave_on (plain_list one) es IsWhy (FairFrom v0) Between Never Never fits gives Said from v to w answers r works
+    gave_in v to w answers r works = listing.gave_on (plain_list one) es IsShown (FairFrom v0) Between Never Never fits gives Said from v to w answers r works
 
     abbrev gave_before : (v : PortValue) (to : ℕ) (w : PortValue) (answers : List Bool) → DidItems fits (length es) from v to w answers → List Block
-    gave_before v to w answers did = listing.gave_did (plain_list one) es IsWhy (FairFrom v0) Between Never Never fits gives Said from v to w answers did
+    gave_before v to w answers did = listing.gave_did (plain_list one) es IsShown (FairFrom v0) Between Never Never fits gives Said from v to w answers did
 
     same_did : (v : PortValue) (to : ℕ) (w : PortValue) (answers : List Bool) (did : DidItems fits (length es) from v to w answers) → gave_before v to w answers did ≡ courses.gave_did did
     same_did v _ _ _ lists.DidItems.none = refl
@@ -247,13 +251,13 @@ module _ (stays : AloneStays) (neither : NeitherLostNorBusy) (v0 : PortValue) (l
     Going ls k s b = logged_behind ls (in_order one (drop k es) k s) ≡ b
 
     abbrev Ended : List Line → Answered → ℕ → PortValue → Result (Unit {0}) Stop → Type 0
-    Ended ls b k w r = ListComes (plain_list one) es IsWhy (FairFrom v0) Between Never Never fits gives Said ls b k w r
+    Ended ls b k w r = ListComes (plain_list one) es IsShown (FairFrom v0) Between Never Never fits gives Said ls b k w r
 
     work_comes : (ls : List Line) (b : Answered) (v : PortValue) (s : Solo) (to : ℕ) (w : PortValue) (answers : List Bool) (r : Result (Unit {0}) Stop) (works : WorksOn fits (length es) from v to w answers r) → FairFrom v0 w → Between v s → Going ls from s b →
         (new : List Line) × Said (courses.gave_on works) new × Ended (ls ++ new) b to w r
     unfolding plain_list
     work_comes ls b v s to w answers r works fair stands going =
-        let c = list_comes (plain_list one) es IsWhy (FairFrom v0) Between Never Never fits gives Said extent_lemmas ls b from v to w answers r works fair (λ f. (s, going, inl stands)) in
+        let c = list_comes (plain_list one) es IsShown (FairFrom v0) Between Never Never fits gives Said extent_lemmas ls b from v to w answers r works fair (λ f. (s, going, inl stands)) in
         (c.0, subst (λ bs. Said bs c.0) (same_gave v to w answers r works) c.1, c.2)
 
     -- before each extent of the turn it stands so
@@ -355,7 +359,7 @@ module _ (stays : AloneStays) (neither : NeitherLostNorBusy) (v0 : PortValue) (l
         let g = none_begun at made v b (Some x) is (inr (x, refl)) going in
         subst (λ a. IsDone (made ++ []) w to 0 (Some x) a) g.2.2 (record {
           lines = subst (λ ls. AreLines op (ls ++ []) []) (sym g.0) tt;
-          replies = record { done = none; value = refl; refusal = refl };
+          replies = record { done = none; value = refl; refusal = (refl, tt) };
           owes = subst (λ y. OwesF stays neither v0 (Lives stays neither v0) y g.2.0) (sym same) g.2.1;
         })
 

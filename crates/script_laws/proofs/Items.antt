@@ -17,6 +17,7 @@ use Rattle.vcpu_turn.specs.Settling as settling
 use Rattle.vcpu_turn.proofs.Hindering.{settles_came}
 use Rattle.script_laws.proofs.Premises.{FairFrom}
 use Rattle.script_laws.proofs.Settling.{due_by, ended_ok, known_settled, same_settled, settles_clean, settles_owes, stands_in}
+use Rattle.script_laws.proofs.Knowing.{IsKnown}
 
 pub described : (v : PortValue) → Describes v.post.machine (told_word v) (plain_of (told_word v))
 described v = record { shares = λ g inside. refl; kinds = λ g inside. refl; cells = λ g i inside low. refl }
@@ -48,7 +49,7 @@ module _ (stays : AloneStays) (neither : NeitherLostNorBusy) (v0 : PortValue) (G
 
   -- what an element's law says, behind what is settled
   abbrev pub LawOf : (PortValue → PortValue → List Bool → Result (Unit {0}) Stop → Type 0) → Relation → (Solo → Outcome) → Type 0
-  LawOf P Kept plain = (v w : PortValue) (s : Solo) (answers : List Bool) (answer : Result (Unit {0}) Stop) → IsAhead v s → Clean v s ⊎ Kept v s → IsSettled v → Rests v → FairFrom v0 w → P v w answers answer → Comes Kept w s (plain s) answer
+  LawOf P Kept plain = (v w : PortValue) (s : Solo) (answers : List Bool) (answer : Result (Unit {0}) Stop) → IsAhead v s → Clean v s ⊎ Kept v s → IsSettled v → Rests v → FairFrom v0 w → P v w answers answer → Comes Kept w s (plain s) answer × IsKnown (plain s) answer
 
   module _ (P : PortValue → PortValue → List Bool → Result (Unit {0}) Stop → Type 0) (Kept : Relation) (plain : Solo → Outcome) (keeping : IsKeeping Kept) (law : LawOf P Kept plain) where
     -- ---- with what is settled in front of it
@@ -56,13 +57,13 @@ module _ (stays : AloneStays) (neither : NeitherLostNorBusy) (v0 : PortValue) (G
     settled_first v u s answers (inl owes) settles = inl (settles_clean stays neither v u s None answers owes settles)
     settled_first v u s answers (inr kept) settles = inr (keeping.goes_on v u s (same_settled stays neither v u s None answers (keeping.stands v s kept) (keeping.first v s kept) settles) kept)
 
-    unsettled_by : (v w : PortValue) (s : Solo) (answers : List Bool) (e : Stop) → Owes v s ⊎ Kept v s → Settles None v w answers (Err e) → Comes Kept w s (plain s) (Err e)
+    unsettled_by : (v w : PortValue) (s : Solo) (answers : List Bool) (e : Stop) → Owes v s ⊎ Kept v s → Settles None v w answers (Err e) → Comes Kept w s (plain s) (Err e) × IsKnown {A = Unit {0}} (plain s) (Err e)
     unsettled_by v w s answers e (inl owes) settles =
-        subst (λ k. Comes Kept w s (plain s) (Err k)) (sym (due_by stays neither v w s None answers e (stands_in stays neither v s owes) settles)) (inl (settles_owes stays neither v w s None answers e owes settles))
+        subst (λ k. Comes Kept w s (plain s) (Err k) × IsKnown {A = Unit {0}} (plain s) (Err k)) (sym (due_by stays neither v w s None answers e (stands_in stays neither v s owes) settles)) (inl (settles_owes stays neither v w s None answers e owes settles), tt)
     unsettled_by v w s answers e (inr kept) settles =
         absurd (let k = ended_ok stays neither v w s None answers (Err e) (keeping.stands v s kept) (keeping.first v s kept) settles (plain_of (told_word v)) (described v) in cc)
 
-    pub first_comes : (v w : PortValue) (s : Solo) (answers : List Bool) (answer : Result (Unit {0}) Stop) → IsAhead v s → Owes v s ⊎ Kept v s → FairFrom v0 w → SettlesFirst P v w answers answer → Comes Kept w s (plain s) answer
+    pub first_comes : (v w : PortValue) (s : Solo) (answers : List Bool) (answer : Result (Unit {0}) Stop) → IsAhead v s → Owes v s ⊎ Kept v s → FairFrom v0 w → SettlesFirst P v w answers answer → Comes Kept w s (plain s) answer × IsKnown (plain s) answer
     first_comes v _ s _ _ ahead pending fair (settling.SettlesFirst.unsettled w answers stop settles) = unsettled_by v w s answers stop pending settles
     first_comes v _ s _ _ ahead pending fair (settling.SettlesFirst.performed u w early answers answer settles does) =
         law u w s answers answer (record { came = came_trans v0 v u ahead.came (settles_came v u early (Ok tt) settles); good = ahead.good }) (settled_first v u s early pending settles) (known_settled stays neither v u None early settles) settles.rests fair does

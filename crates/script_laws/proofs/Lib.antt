@@ -7,6 +7,7 @@ pub mod Extending
 pub mod ExtLaws
 pub mod Extents
 pub mod Items
+pub mod Knowing
 pub mod Listed
 pub mod Lists
 pub mod Made

@@ -11,16 +11,17 @@ use Rattle.step_maker.proofs.Coming.{came_trans}
 use Rattle.course_laws.proofs.Awaiting.{AloneStays, NeitherLostNorBusy}
 use Rattle.script_law.specs.Scripts.{Answered, answered, done_with, in_order, logged_behind, next_of}
 use Rattle.script_law.specs.Values.{Line, Outcome, Solo, Why}
-use Rattle.solo_ports.specs.Coming.{Comes, IsWhy}
+use Rattle.solo_ports.specs.Coming.{Comes}
 use Rattle.solo_ports.specs.Standing.{Owes}
 use Rattle.vcpu_turn.specs.Lists.{Fitting}
 use Rattle.vcpu_turn.specs.Settling.{SettlesFirst}
-use Rattle.script_laws.specs.Logged.{AreLines}
+use Rattle.script_laws.specs.Logged.{AreLines, IsShown}
 use Rattle.script_laws.specs.Plain.{PlainList}
 use Rattle.script_laws.proofs.Items.{IsAhead, IsKeeping, LawOf, OwesF, first_comes}
 use Rattle.script_laws.proofs.Lists.{ItemComes, ListLemmas}
 use Rattle.script_laws.proofs.Premises.{FairFrom, fair_back}
 use Rattle.script_laws.proofs.Untouched.{SameDomains}
+use Rattle.script_laws.proofs.Knowing.{IsKnown}
 
 -- ---- the plain list
 -- behind an outcome with that answer
@@ -102,14 +103,14 @@ module _ (stays : AloneStays) (neither : NeitherLostNorBusy) (v0 : PortValue) (G
   ahead_on u w s a on = record { came = came_trans v0 u w a.came on; good = a.good }
 
   abbrev Ends : ℕ → Solo → Outcome → PortValue → Result (Unit {0}) Stop → Type 0
-  Ends k s o w r = ItemComes (plain_list one) es IsWhy (FairFrom v0) OwesIt KeptHere KeptHere fits (gives_none fits) (AreLines op) k s o [] w r
+  Ends k s o w r = ItemComes (plain_list one) es IsShown (FairFrom v0) OwesIt KeptHere KeptHere fits (gives_none fits) (AreLines op) k s o [] w r
 
-  comes_by : (k : ℕ) (e : E) (u w : PortValue) (s : Solo) (r : Result (Unit {0}) Stop) → slice_get es k ≡ Some e → IsAhead stays neither v0 Good u s → Came u w → Comes (Kept e) w s (plain e s) r → Ends k s (plain e s) w r
+  comes_by : (k : ℕ) (e : E) (u w : PortValue) (s : Solo) (r : Result (Unit {0}) Stop) → slice_get es k ≡ Some e → IsAhead stays neither v0 Good u s → Came u w → Comes (Kept e) w s (plain e s) r × IsKnown (plain e s) r → Ends k s (plain e s) w r
   unfolding plain_list
-  comes_by k e u w s (Ok done) at a on c = (c.fine, no_lines op (plain e s).lines c.none, record { ahead = ahead_of e u w s a on; owes = c.owes })
-  comes_by k e u w s (Err (Refused x)) at a on c = (c.why, c.is, c.none, c.same, record { ahead = ahead_of e u w s a on; owes = c.owes })
-  comes_by k e u w s (Err (Paused p)) at a on (inl owes) = inl (record { ahead = ahead_on u w s a on; owes = owes })
-  comes_by k e u w s (Err (Paused p)) at a on (inr kept) = inr (record { ahead = ahead_on u w s a on; element = e; at = at; kept = kept })
+  comes_by k e u w s (Ok done) at a on (c, shows) = (c.fine, no_lines op (plain e s).lines c.none, record { ahead = ahead_of e u w s a on; owes = c.owes })
+  comes_by k e u w s (Err (Refused x)) at a on (c, shows) = (c.why, c.is, c.none, (c.same, shows c.why c.is), record { ahead = ahead_of e u w s a on; owes = c.owes })
+  comes_by k e u w s (Err (Paused p)) at a on (inl owes, shows) = inl (record { ahead = ahead_on u w s a on; owes = owes })
+  comes_by k e u w s (Err (Paused p)) at a on (inr kept, shows) = inr (record { ahead = ahead_on u w s a on; element = e; at = at; kept = kept })
 
   waits_by : (k : ℕ) (e : E) (u : PortValue) (s : Solo) → slice_get es k ≡ Some e → OwesIt u s ⊎ KeptHere k u s → IsAhead stays neither v0 Good u s × (Owes u s ⊎ Kept e u s)
   waits_by k e u s at (inl owes) = (owes.ahead, inl owes.owes)
@@ -121,7 +122,7 @@ module _ (stays : AloneStays) (neither : NeitherLostNorBusy) (v0 : PortValue) (G
       let does = fit k e u w asked r at f in
       comes_by k e u w s r at waits.0 (came k u w asked r f) (first_comes stays neither v0 Good (P k e) (Kept e) (plain e) (keeping e) (law k e at) u w s asked r waits.0 waits.1 fair does)
 
-  pub list_lemmas : ListLemmas (plain_list one) es IsWhy (FairFrom v0) OwesIt KeptHere KeptHere fits (gives_none fits) (AreLines op)
+  pub list_lemmas : ListLemmas (plain_list one) es IsShown (FairFrom v0) OwesIt KeptHere KeptHere fits (gives_none fits) (AreLines op)
   unfolding plain_list
   list_lemmas =
       record {

@@ -15,9 +15,10 @@ use Rattle.script_laws.specs.Turns.{IsLog, Turned}
 use Rattle.script_laws.proofs.Ending.{whole_script}
 use Rattle.script_laws.proofs.Entering.{AtLaw, KeptOn, PairLaw, elements}
 use Rattle.script_laws.proofs.Extents.{ExtentLaw}
+use Rattle.script_laws.proofs.Knowing.{ShownLaws}
 
-pub script_comes : (l : Laws) (neither : NeitherLostNorBusy) → KeptOn → PairLaw → AtLaw → ExtentLaw → (c d : Processing) (v w : PortValue) (x : Solo) → OpensScript c v x → Turned c v d w → d.retired ≡ true → Fair v w → IsNeverStale v w →
+pub script_comes : (l : Laws) (neither : NeitherLostNorBusy) → KeptOn → PairLaw → AtLaw → ShownLaws → ExtentLaw → (c d : Processing) (v w : PortValue) (x : Solo) → OpensScript c v x → Turned c v d w → d.retired ≡ true → Fair v w → IsNeverStale v w →
     IsLog IsLogged d.log (script_alone (whose v) c.script x).log × IsStoppedAt w (script_alone (whose v) c.script x).left
-script_comes l neither kept_on pair at extent c d v w x opens turned retired fair fresh =
+script_comes l neither kept_on pair at shown extent c d v w x opens turned retired fair fresh =
     let real = own_domain v x opens.clean in
-    whole_script l neither v real (elements l neither kept_on pair at v real extent) c d w x turned (record { fair = fair; fresh = fresh }) opens.domain opens.no_line opens.none opens.at opens.on opens.clean opens.alive retired
+    whole_script l neither v real (elements l neither kept_on pair at shown v real extent) c d w x turned (record { fair = fair; fresh = fresh }) opens.domain opens.no_line opens.none opens.at opens.on opens.clean opens.alive retired

@@ -26,7 +26,6 @@ use Rattle.script_law.specs.Scripts.{Answered, answered, in_order, listed, logge
 use Rattle.script_law.specs.Values.{Line, Outcome, Solo, of_domains}
 use Rattle.solo_ports.specs.Standing.{whose}
 use Rattle.solo_ports.proofs.Along.{owes_on}
-use Rattle.solo_ports.specs.Coming.{IsWhy}
 use Rattle.vcpu_turn.specs.Cpus.{reply_of}
 use Rattle.vcpu_turn.specs.Lists.{DidItems, Fitting, WorksOn}
 use Rattle.vcpu_turn.specs.Lists as lists
@@ -36,7 +35,7 @@ use Rattle.vcpu_turn.specs.Settling.{SettlesFirst}
 use Rattle.vcpu_turn.specs.Working.{valued}
 use Rattle.vcpu_turn.specs.declared.cpu.Progress.{Progress}
 use Rattle.vcpu_turn.proofs.Hindering.{pairs_came}
-use Rattle.script_laws.specs.Logged.{AreLines, IsReply}
+use Rattle.script_laws.specs.Logged.{AreLines, IsReply, IsShown}
 use Rattle.script_laws.proofs.Items.{IsKeeping, LawOf, OwesF}
 use Rattle.script_laws.proofs.Listed.{KeptIn, gives_none, list_lemmas, no_lines, plain_list}
 use Rattle.script_laws.proofs.Lists.{ListComes, ListLemmas, Stands as ListStands, gave_did, gave_on, list_comes}
@@ -106,18 +105,18 @@ module _ (stays : AloneStays) (neither : NeitherLostNorBusy) (v0 : PortValue) (K
   abbrev OwesP : PortValue → Solo → Type 0
   OwesP = OwesF stays neither v0 May
 
-  lemmas : ListLemmas (plain_list (λ k e s. one e s)) list IsWhy (FairFrom v0) OwesP Kept Kept fits gives (AreLines op)
+  lemmas : ListLemmas (plain_list (λ k e s. one e s)) list IsShown (FairFrom v0) OwesP Kept Kept fits gives (AreLines op)
   lemmas = list_lemmas stays neither v0 May may_on op list by (KeepsPair o) one fits (keeping foreign) (λ k e at. law foreign e) (λ k u w asked r f. pairs_came o list k u w asked r f) (λ e s. updates_keep s (own stays neither v0) o (pairs.element_of e) s (itself s)) fits_some
 
   abbrev Standing : List Line → Answered → ℕ → PortValue → Type 0
-  Standing made b k v = ListStands (plain_list (λ k e s. one e s)) list IsWhy (FairFrom v0) OwesP Kept Kept fits gives (AreLines op) made b k v
+  Standing made b k v = ListStands (plain_list (λ k e s. one e s)) list IsShown (FairFrom v0) OwesP Kept Kept fits gives (AreLines op) made b k v
 
   -- no element logs a line
-  none_did : (from : ℕ) (v : PortValue) (to : ℕ) (w : PortValue) (answers : List Bool) (did : DidItems fits (length list) from v to w answers) → gave_did (plain_list (λ k e s. one e s)) list IsWhy (FairFrom v0) OwesP Kept Kept fits gives (AreLines op) from v to w answers did ≡ []
+  none_did : (from : ℕ) (v : PortValue) (to : ℕ) (w : PortValue) (answers : List Bool) (did : DidItems fits (length list) from v to w answers) → gave_did (plain_list (λ k e s. one e s)) list IsShown (FairFrom v0) OwesP Kept Kept fits gives (AreLines op) from v to w answers did ≡ []
   none_did from v _ _ _ lists.DidItems.none = refl
   none_did from v _ _ _ (lists.DidItems.more k u w answers asked did fit less) = append-nil _ ∙ none_did from v k u answers did
 
-  none_gave : (from : ℕ) (v : PortValue) (to : ℕ) (w : PortValue) (answers : List Bool) (r : Result (Unit {0}) Stop) (on : WorksOn fits (length list) from v to w answers r) → gave_on (plain_list (λ k e s. one e s)) list IsWhy (FairFrom v0) OwesP Kept Kept fits gives (AreLines op) from v to w answers r on ≡ []
+  none_gave : (from : ℕ) (v : PortValue) (to : ℕ) (w : PortValue) (answers : List Bool) (r : Result (Unit {0}) Stop) (on : WorksOn fits (length list) from v to w answers r) → gave_on (plain_list (λ k e s. one e s)) list IsShown (FairFrom v0) OwesP Kept Kept fits gives (AreLines op) from v to w answers r on ≡ []
   none_gave from v _ _ _ _ (lists.WorksOn.all_done at) = refl
   none_gave from v _ _ _ _ (lists.WorksOn.last_done k u w answers asked did fit at) = append-nil _ ∙ none_did from v k u answers did
   none_gave from v _ _ _ _ (lists.WorksOn.due k u w answers asked did fit less) = append-nil _ ∙ none_did from v k u answers did
@@ -154,7 +153,7 @@ module _ (stays : AloneStays) (neither : NeitherLostNorBusy) (v0 : PortValue) (K
 
   -- ---- the work of a turn, behind which the list has come so far
   ends_so : (to : Progress) (made : List LogLine) (w : PortValue) (b : Answered) (r : Result (Unit {0}) Stop) (new : List Line) → made ≡ [] → 0 < length list → length list ≤ 512 → new ≡ [] →
-      ListComes (plain_list (λ k e s. one e s)) list IsWhy (FairFrom v0) OwesP Kept Kept fits gives (AreLines op) ([] ++ new) b to.done w r → Comes stays neither v0 (λ to made w. PairsGoing to made w b) op to made w b (valued r)
+      ListComes (plain_list (λ k e s. one e s)) list IsShown (FairFrom v0) OwesP Kept Kept fits gives (AreLines op) ([] ++ new) b to.done w r → Comes stays neither v0 (λ to made w. PairsGoing to made w b) op to made w b (valued r)
   unfolding plain_list
   ends_so to made w b (Ok done) new none some few bare (t, is, owes) =
       answers_so made w (reply_of to.done 0 None) (answered to.done 0 None new t) b (sym is) none bare (record { done = refl; value = refl; refusal = tt }) (lower w t owes)
@@ -171,7 +170,7 @@ module _ (stays : AloneStays) (neither : NeitherLostNorBusy) (v0 : PortValue) (K
   list_work : (at to : Progress) (made : List LogLine) (u w : PortValue) (b : Answered) (answers : List Bool) (r : Result (Unit {0}) Stop) (from : ℕ) → made ≡ [] → 0 < length list → length list ≤ 512 → (on : WorksOn fits (length list) from u to.done w answers r) → FairFrom v0 w → (FairFrom v0 u → Standing [] b from u) →
       Comes stays neither v0 (λ to made w. PairsGoing to made w b) op to made w b (valued r)
   list_work at to made u w b answers r from none some few on fair stands =
-      let k = list_comes (plain_list (λ k e s. one e s)) list IsWhy (FairFrom v0) OwesP Kept Kept fits gives (AreLines op) lemmas [] b from u to.done w answers r on fair stands in
+      let k = list_comes (plain_list (λ k e s. one e s)) list IsShown (FairFrom v0) OwesP Kept Kept fits gives (AreLines op) lemmas [] b from u to.done w answers r on fair stands in
       ends_so to made w b r k.0 none some few (no_new _ k.0 (none_gave from u to.done w answers r on) k.1) k.2
 
   -- ---- whose they are is read first
@@ -202,7 +201,7 @@ module _ (stays : AloneStays) (neither : NeitherLostNorBusy) (v0 : PortValue) (K
       let alike = owners_alike v w s stands (whose v0).domain foreign low (Err x) finds in
       answers_so made w (reply_of to.done 0 (Some x)) (refused x s) b
       (sym (owned_few s list (Some x) some few (subst (λ (p : Post). refuse_owners p.machine (of_domains s) (whose v0).domain foreign ≡ Some x) post no)) ∙ is) none refl
-      (record { done = at0; value = refl; refusal = refl })
+      (record { done = at0; value = refl; refusal = (refl, tt) })
       (record { ahead = record { came = came_trans v0 v w owes.ahead.came alike.came; good = owes.ahead.good }; owes = owes_on stays v w s alike owes.owes })
 
   -- behind steps that change nothing
@@ -246,7 +245,7 @@ module _ (stays : AloneStays) (neither : NeitherLostNorBusy) (v0 : PortValue) (K
 
   long_so : (to : Progress) (made : List LogLine) (v w : PortValue) (s : Solo) (b : Answered) → 512 < length list → w ≡ v → to.done ≡ 0 → OwesT stays neither v0 v s → made ≡ [] → owned_pairs (own stays neither v0) foreign list s ≡ b → IsTaskAnswered stays neither v0 op made w (reply_of to.done 0 (Some BatchLong)) b
   long_so to made v w s b more same at0 owes none is =
-      answers_so made w (reply_of to.done 0 (Some BatchLong)) (refused BatchLong s) b (sym (owned_long s list more) ∙ is) none refl (record { done = at0; value = refl; refusal = refl }) (subst (λ y. OwesT stays neither v0 y s) (sym same) owes)
+      answers_so made w (reply_of to.done 0 (Some BatchLong)) (refused BatchLong s) b (sym (owned_long s list more) ∙ is) none refl (record { done = at0; value = refl; refusal = (refl, tt) }) (subst (λ y. OwesT stays neither v0 y s) (sym same) owes)
 
   nothing_so : (to : Progress) (made : List LogLine) (v : PortValue) (s : Solo) (b : Answered) → length list ≡ 0 → to.done ≡ 0 → OwesT stays neither v0 v s → made ≡ [] → owned_pairs (own stays neither v0) foreign list s ≡ b → IsTaskAnswered stays neither v0 op made v (reply_of to.done 0 None) b
   nothing_so to made v s b empty at0 owes none is =

@@ -38,6 +38,7 @@ use Rattle.script_laws.proofs.Pairing.{PairsGoing, pairs_work}
 use Rattle.script_laws.proofs.Premises.{FairFrom, fair_on}
 use Rattle.script_laws.proofs.Single.{MapGoing, descriptors_work, map_work, read_work, unbuilt_work, write_work}
 use Rattle.script_laws.proofs.Tasks.{Begins, Comes, ExtentsGoing, Lives, MayName, OwesT, descriptors_alone, own, owners_of}
+use Rattle.script_laws.proofs.Knowing.{ShownLaws}
 
 zeroed : (r : Result (Unit {0}) Stop) → valued r ≡ with_zero r
 zeroed (Ok done) = refl
@@ -52,6 +53,7 @@ pub record Elements (l : Laws) (neither : NeitherLostNorBusy) (v0 : PortValue) :
       LawOf l.stays neither v0 (MayName l.stays neither v0 foreign) (λ v w asked r. Updates (owners_of l.stays neither v0 foreign) (pairs.element_of p) v w asked r) (KeepsPair (owners_of l.stays neither v0 foreign) p) (pair_alone (own l.stays neither v0) (owners_of l.stays neither v0 foreign) p)
   pub map_law : (foreign va word flags : ℕ) → LawOf l.stays neither v0 (Lives l.stays neither v0) (λ v w asked r. UpdatesWord (whose v0).domain foreign va word flags v w asked r) (λ u s. ⊥) (map_word (own l.stays neither v0) foreign va word flags)
   pub extent_law : ExtentLaw
+  pub shown : ShownLaws
 
 module _ (l : Laws) (neither : NeitherLostNorBusy) (v0 : PortValue) (real : (whose v0).domain < length v0.post.machine.page_limit) (e : Elements l neither v0) where
   pub dropped : (va flags : ℕ) (u w : PortValue) (s : Solo) (r : Result (Unit {0}) Stop) → Came v0 u → Stands u s → FairFrom v0 w → DropsBehind (whose v0).domain flags va u w r → (r ≡ Ok tt) × StaysAlike u w
@@ -81,7 +83,7 @@ module _ (l : Laws) (neither : NeitherLostNorBusy) (v0 : PortValue) (real : (who
   abbrev pub TaskGoing : Option Task → ℕ → ℕ → Progress → List LogLine → PortValue → Answered → Type 0
   TaskGoing None op call at made v b = Begins l.stays neither v0 made v b (λ s. refused BadCommand s)
   TaskGoing (Some (OfPairs foreign list)) op call at made v b = PairsGoing l.stays neither v0 e.KeepsPair e.pair_keeping e.pair_law real op foreign list at made v b
-  TaskGoing (Some (OfExt list)) op call at made v b = ExtGoing l.stays neither v0 (KeepsExt l neither v0) (ext_keeping l neither v0) (ext_law l neither v0) op list at made v b
+  TaskGoing (Some (OfExt list)) op call at made v b = ExtGoing l.stays neither v0 (KeepsExt l neither v0) (ext_keeping l neither v0) (ext_law l neither v0 e.shown) op list at made v b
   TaskGoing (Some (OfMem command order items)) op call at made v b = ExtentsGoing l.stays neither v0 op call command order items at made v b
   TaskGoing (Some (OfMapping foreign va word flags)) op call at made v b = MapGoing l.stays neither v0 op foreign va word flags (e.map_law foreign va word flags) (dropped va flags) at made v b
   TaskGoing (Some (OfDescriptors t)) op call at made v b = Begins l.stays neither v0 made v b (λ s. single (descriptors_alone l.stays neither v0 t s))
@@ -115,12 +117,12 @@ module _ (l : Laws) (neither : NeitherLostNorBusy) (v0 : PortValue) (real : (who
       (pairs_work l.stays neither v0 e.KeepsPair e.pair_keeping e.pair_law real op foreign list at to made v w b asked went.works.ended at.done to.done refl refl went.works.works fair g))
   task_work (Some (OfExt list)) op call at to made log log' v w b asked r went fair rests settled g =
       none_made (Some (OfExt list)) op call to log log' made w b r went.lines
-      (subst (λ y. TaskComes (Some (OfExt list)) op call to made w b y) (sym went.works.answer_is) (ext_work l.stays neither v0 (KeepsExt l neither v0) (ext_keeping l neither v0) (ext_law l neither v0) op list at.done at.awaited at to made v w b asked went.works.ended refl went.works.works fair g))
+      (subst (λ y. TaskComes (Some (OfExt list)) op call to made w b y) (sym went.works.answer_is) (ext_work l.stays neither v0 (KeepsExt l neither v0) (ext_keeping l neither v0) (ext_law l neither v0 e.shown) op list at.done at.awaited at to made v w b asked went.works.ended refl went.works.works fair g))
   task_work (Some (OfMem command order items)) op call at to made log log' v w b asked r went fair rests settled g = (
     given_lines (record { op = op; call = call }) (gave_of (whose v0).domain (Some (OfMem command order items)) at.awaited v at.done to.done w asked r went.works),
     went.lines,
     subst (λ y. TaskComes (Some (OfMem command order items)) op call to (made ++ given_lines (record { op = op; call = call }) (gave_of (whose v0).domain (Some (OfMem command order items)) at.awaited v at.done to.done w asked r went.works)) w b y) (sym went.works.answer_is)
-        (extents_work l.stays neither v0 e.extent_law op call command order items at to made v w b asked went.works.ended went.works.works went.within fair rests settled g),
+        (extents_work l.stays neither v0 e.extent_law e.shown op call command order items at to made v w b asked went.works.ended went.works.works went.within fair rests settled g),
   )
   task_work (Some (OfMapping foreign va word flags)) op call at to made log log' v w b asked r went fair rests settled g =
       none_made (Some (OfMapping foreign va word flags)) op call to log log' made w b r went.lines
@@ -128,7 +130,7 @@ module _ (l : Laws) (neither : NeitherLostNorBusy) (v0 : PortValue) (real : (who
       (map_work l.stays neither v0 op foreign va word flags (e.map_law foreign va word flags) (dropped va flags) at.awaited at to made v w b asked went.works.ended at.done to.done refl refl went.works.works fair g))
   task_work (Some (OfDescriptors t)) op call at to made log log' v w b asked r went fair rests settled g =
       none_made (Some (OfDescriptors t)) op call to log log' made w b r went.lines
-      (subst (λ y. TaskComes (Some (OfDescriptors t)) op call to made w b y) (sym went.works.answer_is) (descriptors_work l.stays neither v0 op l.nobody t to made v w b asked went.works.ended went.works.works fair rests settled g))
+      (subst (λ y. TaskComes (Some (OfDescriptors t)) op call to made w b y) (sym went.works.answer_is) (descriptors_work l.stays neither v0 op l.nobody e.shown t to made v w b asked went.works.ended went.works.works fair rests settled g))
   task_work (Some (OfRead user va)) op call at to made log log' v w b asked r went fair rests settled g = none_made (Some (OfRead user va)) op call to log log' made w b r went.lines (read_work l.stays neither v0 op user va to made v w b asked r went.works fair rests settled (λ to made w. TaskGoing (Some (OfRead user va)) op call to made w b) g)
   task_work (Some (OfWrite user va val)) op call at to made log log' v w b asked r went fair rests settled g =
       none_made (Some (OfWrite user va val)) op call to log log' made w b r went.lines

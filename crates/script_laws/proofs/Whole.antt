@@ -230,7 +230,7 @@ module _ (l : Laws) (neither : NeitherLostNorBusy) (v0 : PortValue) (real : (who
       record {
         logged = λ n made all last log. record { before = made; reply = reply_of (length all) 0 None; is = refl; lines_are = lines_logged n made all log; answers = record { done = refl; value = refl; refusal = tt } };
         leaves = λ all last. refl;
-        refuses = λ n s. record { before = []; reply = reply_of 0 0 (Some BatchLong); is = refl; lines_are = tt; answers = record { done = refl; value = refl; refusal = refl } };
+        refuses = λ n s. record { before = []; reply = reply_of 0 0 (Some BatchLong); is = refl; lines_are = tt; answers = record { done = refl; value = refl; refusal = (refl, tt) } };
         refuses_all = λ s. refl;
       }
 

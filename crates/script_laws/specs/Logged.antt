@@ -6,13 +6,22 @@ use Rattle.xp_words.specs.declared.reply.Refusal.{Refusal}
 use Rattle.xp_words.specs.declared.reply.Reply.{Reply}
 use Rattle.table_law.specs.Plain.{share_of}
 use Rattle.script_law.specs.Scripts.{Logged}
-use Rattle.script_law.specs.Values.{Answer, Called, Given, Left, Line, Why}
+use Rattle.script_law.specs.Values.{Answer, Called, Given, Left, Line, Numbers, Why}
 use Rattle.solo_ports.specs.Coming.{IsWhy}
+use Rattle.shown_words.specs.Shown.{ShowsSettled}
+
+-- a word of a frame that the refusal shows is settled: a kind word is a spelling, and a reference word is not of a frame that is just being given back
+abbrev pub ShowsFor : Refusal → Why → Type 0
+ShowsFor r (Numbers q) = Unit {0}
+ShowsFor r y = ShowsSettled r
+
+abbrev pub IsShown : Refusal → Why → Type 0
+IsShown r y = IsWhy r y × ShowsFor r y
 
 -- refused for that reason; or neither is refused
 abbrev pub IsWhyOf : Option Refusal → Option Why → Type 0
 IsWhyOf None None = Unit {0}
-IsWhyOf (Some r) (Some y) = IsWhy r y
+IsWhyOf (Some r) (Some y) = IsShown r y
 IsWhyOf _ _ = ⊥
 
 pub record IsReply (r : Reply) (a : Answer) : Type 0 where
