@@ -1,3 +1,4 @@
 pub mod Addressing
 pub mod Base
+pub mod Extending
 pub mod Writing
