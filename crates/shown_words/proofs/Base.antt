@@ -84,11 +84,11 @@ unfolding IsRef ref_write
 owned_small o c true is = let x = is.0 in let y = is.2 in omega arith
 owned_small o c false is = let x = is.0 in let y = is.2 in omega arith
 
-owned_settled : (o c : ℕ) (a : Bool) → IsRef (Owned o a c) → IsSettledRef (ref_write (Owned o a c))
+pub owned_settled : (o c : ℕ) (a : Bool) → IsRef (Owned o a c) → IsSettledRef (ref_write (Owned o a c))
 unfolding is_dying
 owned_settled o c a is = record { small = owned_small o c a is; owned = ap is_dying_in (ref_read-write (Owned o a c) is) }
 
-either : (b : Bool) (x y : ℕ) → (b ≡ true → IsSettledRef x) → IsSettledRef y → IsSettledRef (if b then x else y)
+pub either : (b : Bool) (x y : ℕ) → (b ≡ true → IsSettledRef x) → IsSettledRef y → IsSettledRef (if b then x else y)
 either true x y a e = a refl
 either false x y a e = e
 
@@ -191,7 +191,7 @@ had_settling v w f owner g a =
       none = λ machine telling n. let is = a.plain telling in same_none (got f (told_word v)) (told_word w) (λ h. is.1 (Refs h)) (got_none v.post.machine owner f (told_word v) machine is.0 n);
     }
 
-shown : (f w g x : ℕ) → Some (WrongOwner f w) ≡ Some (WrongOwner g x) → w ≡ x
+pub shown : (f w g x : ℕ) → Some (WrongOwner f w) ≡ Some (WrongOwner g x) → w ≡ x
 shown f w g x is = ap (λ o. second o) is
   where
     second : Option Refusal → ℕ

@@ -1,7 +1,11 @@
 pub mod Acquiring
 pub mod Addressing
 pub mod Base
+pub mod Extending
+pub mod PageCalls
+pub mod Paging
 pub mod Performing
+pub mod Settled
 pub mod Spelling
 pub mod Standing
 pub mod Writing
