@@ -1,157 +1,45 @@
--- Pages that are taken and pages that a walk leads to: what they refuse for an owner shows no frame that is just being given back.
-use Rattle.std.proofs.Common.{◌≡◌, ◌≢◌, ℕ, ◌+◌, ◌<◌, ◌==◌, ◌++◌, if◌then◌else◌, Bool, true, false, List, [], ◌∷◌, length, get_or, Option, Some, None, Result, Ok, Err, refl, sym, ap, ◌∙◌, subst}
+-- Operations on whole pages and descriptor tables: what they refuse for an owner shows no frame that is just being given back.
+use Rattle.std.proofs.Common.{◌≡◌, ℕ, ◌%◌, ◌==◌, if◌then◌else◌, Bool, true, false, List, length, get_or, Option, Some, None, Result, Ok, Err, refl, sym, ap, ◌∙◌, subst}
 use Rattle.xp_words.specs.Machine.{IsMachine, Machine}
 use Rattle.xp_words.specs.declared.kind.PageType.{PageType}
-use Rattle.xp_words.specs.declared.kind.PageType.TheVariants.{Desc, Writable}
-use Rattle.xp_words.specs.declared.place.Place.{Place}
-use Rattle.xp_words.specs.declared.place.Place.TheVariants.{Kind, Refs, Vcpu}
+use Rattle.xp_words.specs.declared.place.Place.TheVariants.{Kind, Vcpu}
 use Rattle.xp_words.specs.declared.reply.Refusal.{Refusal}
 use Rattle.xp_words.specs.declared.reply.Refusal.TheVariants as refusals
 use Rattle.xp_words.specs.declared.reply.Refusal.TheVariants.{WrongOwner}
 use Rattle.xp_words.specs.declared.reply.Stop.{Stop}
-use Rattle.xp_words.specs.declared.reply.Stop.TheVariants.{Refused, Paused}
+use Rattle.xp_words.specs.declared.reply.Stop.TheVariants.{Refused}
 use Rattle.xp_board.specs.Readings.{is_dying}
 use Rattle.xp_board.specs.Told.{PortValue, is_telling, told_word}
-use Rattle.step_maker.specs.Moves.{Moment, Moves, Ran}
-use Rattle.step_maker.specs.Visits.{Does, Only, Then, Visit, Where, visits}
-use Rattle.step_maker.proofs.Coming.{same_machine}
+use Rattle.step_maker.specs.Visits.{Does, Only, Visit}
+use Rattle.step_maker.proofs.Coming.{moves_came}
 use Rattle.step_maker.proofs.Telling.{came_telling}
-use Rattle.step_maker.proofs.Visiting.{does_came}
-use Rattle.frame_types.specs.Found.{TakesFound}
-use Rattle.frame_types.specs.Plain.{TwinTake}
-use Rattle.frame_types.specs.declared.taking.Taken.{Taken}
-use Rattle.frame_types.specs.declared.taking.Taken.TheVariants as types
-use Rattle.partial_state.specs.Levels.{level_type}
-use Rattle.table_entries.specs.Acquiring.{GotRef, TookType}
+use Rattle.table_entries.specs.Acquiring.{GotRef}
 use Rattle.table_entries.proofs.Shared.{ref_came}
 use Rattle.whole_pages.specs.Whole as whole
 use Rattle.whole_pages.specs.Whole.{ClearsPage, CopiesPage}
-use Rattle.writable_pages.specs.Pages as memory
-use Rattle.writable_pages.specs.Pages.{GotPage, TookPage}
-use Rattle.desc_pages.specs.Fixing as fixing
-use Rattle.desc_pages.specs.Fixing.{FixesBy}
-use Rattle.desc_pages.specs.Pages as pages
-use Rattle.desc_pages.specs.Pages.{GotDesc, PageValidated, TookDesc, TookDescType}
-use Rattle.solo_pages.proofs.Waits.{type_unended}
+use Rattle.desc_pages.specs.Pages.{GotDesc}
+use Rattle.desc_pages.specs.Descriptors as update
+use Rattle.desc_pages.specs.Descriptors.{DescriptorUpdated, StoredUnder, TookAs, UpdatesDescriptor, descriptor_refusal, frame_at, index_at}
+use Rattle.desc_pages.specs.Gdt as gdt
+use Rattle.desc_pages.specs.Gdt.{GdtSet, SetsGdt, TookPages, gdt_refusal, is_bad_gdt}
+use Rattle.desc_pages.specs.Ldt as ldt
+use Rattle.desc_pages.specs.Ldt.{SetsLdt, is_bad_ldt, is_canonical, ldt_refusal}
+use Rattle.desc_pages.specs.Names.{own_domain}
 use Rattle.shown_words.specs.Shown.{NoneDies}
-use Rattle.shown_words.proofs.Base.{Settling, had_settling, nothing_settling, off_settling, ref_shows, settling_then, take_none, type_settling, type_unowned}
-
--- ---- lists of steps, none at a reference word
-abbrev pub IsOffRefs : Place → Type 0
-IsOffRefs (Refs f) = ⊥
-IsOffRefs _ = Unit {0}
-
-abbrev pub AreOffRefs : List Visit → Type 0
-AreOffRefs [] = Unit {0}
-AreOffRefs (x ∷ xs) = IsOffRefs x.place × AreOffRefs xs
-
-off_ran : (v w : PortValue) (ms : List Moment) → Ran v ms w → AreOffRefs (visits ms) → Settling v w
-off_ran v w [] ran off = subst (λ (y : PortValue). Settling v y) (sym ran) (nothing_settling v)
-off_ran v w (m ∷ ms) ran off =
-    settling_then v ran.0 w (off_ran v ran.0 ms ran.1 off.1)
-    (off_settling ran.0 w m.place m.act m.kind m.mark m.found (λ g e. subst IsOffRefs (sym e) off.0) ran.2.moves)
-
-pub off_does : (v w : PortValue) (P : List Visit → Type 0) → ((vs : List Visit) → P vs → AreOffRefs vs) → Does v w P → Settling v w
-unfolding Does
-off_does v w P each does = off_ran v w does.0 does.1 (each (visits does.0) does.2)
-
-pub off_both : (before after : List Visit) → AreOffRefs before → AreOffRefs after → AreOffRefs (after ++ before)
-off_both before [] a b = a
-off_both before (x ∷ xs) a b = (b.0, off_both before xs a b.1)
-
-pub off_then : (P Q : List Visit → Type 0) → ((vs : List Visit) → P vs → AreOffRefs vs) → ((vs : List Visit) → Q vs → AreOffRefs vs) → (vs : List Visit) → Then P Q vs → AreOffRefs vs
-off_then P Q p q vs t = subst AreOffRefs (sym t.list) (off_both t.before t.after (p t.before t.first) (q t.after t.next))
-
-pub off_only : (x : Visit) → IsOffRefs x.place → (vs : List Visit) → Only x vs → AreOffRefs vs
-off_only x is vs e = subst AreOffRefs (sym e) (is, tt)
-
-pub off_where : (b : Bool) (P : List Visit → Type 0) → ((vs : List Visit) → P vs → AreOffRefs vs) → (vs : List Visit) → Where b P vs → AreOffRefs vs
-off_where true P p vs a = p vs a
-off_where false P p vs e = subst AreOffRefs (sym e) tt
-
--- ---- a descriptor page
-desc_settling : (v w : PortValue) (f owner : ℕ) (way : Taken) → TookDescType v w f owner (Ok way) → Settling v w
-desc_settling v w f owner way a =
-    record { came = does_came v w _ a.found; none = λ machine telling n. take_none w (told_word v) f Desc way (a.plain telling).2 n }
-
-fixes_off : (f i : ℕ) (vs : List Visit) → FixesBy f i vs → AreOffRefs vs
-fixes_off f _ _ fixing.FixesBy.none = tt
-fixes_off f _ _ (fixing.FixesBy.stands i x vs is more) = (tt, fixes_off f i vs more)
-fixes_off f _ _ (fixing.FixesBy.changes i x y old vs is off more) = (tt, (tt, fixes_off f i vs more))
-
-validated_settling : (v w : PortValue) (f : ℕ) (r : Result (Unit {0}) Stop) → r ≡ Ok tt → PageValidated v w f r → Settling v w
-validated_settling v w f _ is (pages.PageValidated.unfixed z e i word less unfixes died) = absurd cc
-validated_settling v w f _ is (pages.PageValidated.fixed z e old fixes stores) =
-    settling_then v z w (off_does v z _ (fixes_off f 512) fixes.visits) (off_settling z w (Kind f) _ _ None old (λ g e. absurd cc) stores)
-
-took_settling : (v w : PortValue) (f owner : ℕ) (r : Result (Unit {0}) Stop) → r ≡ Ok tt → TookDesc v f owner w r → Settling v w
-took_settling v _ f owner _ is (pages.TookDesc.untyped y w e type gave) = absurd cc
-took_settling v _ f owner _ is (pages.TookDesc.counted w type) = desc_settling v w f owner types.Counted type
-took_settling v _ f owner _ is (pages.TookDesc.waiting y w stamp e type left) = absurd cc
-took_settling v _ f owner _ is (pages.TookDesc.read y w r type validated) = settling_then v y w (desc_settling v y f owner (types.InWork 0 true) type) (validated_settling y w f r is validated)
-
-page_settling : (v w : PortValue) (f owner : ℕ) (r : Result ℕ Stop) (g : ℕ) → r ≡ Ok g → GotDesc v f owner w r → Settling v w
-page_settling v _ f owner _ g is (pages.GotDesc.unreferred w e ref) = absurd cc
-page_settling v _ f owner _ g is (pages.GotDesc.untaken u w e ref took) = absurd cc
-page_settling v _ f owner _ g is (pages.GotDesc.had u w ref took) = settling_then v u w (had_settling v u f owner f ref) (took_settling u w f owner (Ok tt) refl took)
-
--- once its reference is had, it is never refused for an owner
-validated_unowned : (v w : PortValue) (f : ℕ) (r : Result (Unit {0}) Stop) (g x : ℕ) → r ≡ Err (Refused (WrongOwner g x)) → PageValidated v w f r → ⊥
-validated_unowned v w f _ g x is (pages.PageValidated.unfixed z e i word less unfixes died) = absurd cc
-validated_unowned v w f _ g x is (pages.PageValidated.fixed z e old fixes stores) = absurd cc
-
-unwaited : (v w : PortValue) (f owner : ℕ) (want : PageType) (own : Bool) (stamp g x : ℕ) (e : Stop) → e ≡ Refused (WrongOwner g x) → TakesFound v w f owner want (Ok (types.Waiting own stamp e)) → ⊥
-unwaited v w f owner want own stamp g x e is found = type_unended v w f owner want own stamp (Refused (WrongOwner g x)) (subst (λ y. TakesFound v w f owner want (Ok (types.Waiting own stamp y))) is found) tt
-
-untyped : (v w : PortValue) (f : ℕ) (want : PageType) (g x : ℕ) (e : Stop) → e ≡ Refused (WrongOwner g x) → is_telling v ≡ true → TwinTake v w f want (Err e) → ⊥
-untyped v w f want g x e is telling plain = type_unowned f g x (told_word v (Kind f)) want ((plain telling).0 ∙ ap Some is)
-
-stop_of : (e : Stop) (r : Refusal) → ◌≡◌ {A = Result (Unit {0}) Stop} (Err e) (Err (Refused r)) → e ≡ Refused r
-stop_of e r is = cc
-
-got_stop : (e : Stop) (r : Refusal) → ◌≡◌ {A = Result ℕ Stop} (Err e) (Err (Refused r)) → e ≡ Refused r
-got_stop e r is = cc
-
-took_unowned : (v w : PortValue) (f owner : ℕ) (r : Result (Unit {0}) Stop) (g x : ℕ) → r ≡ Err (Refused (WrongOwner g x)) → is_telling v ≡ true → TookDesc v f owner w r → ⊥
-took_unowned v _ f owner _ g x is telling (pages.TookDesc.untyped y w e type gave) = untyped v y f Desc g x e (stop_of e (WrongOwner g x) is) telling type.plain
-took_unowned v _ f owner _ g x is telling (pages.TookDesc.counted w type) = absurd cc
-took_unowned v _ f owner _ g x is telling (pages.TookDesc.waiting y w stamp e type left) = unwaited v y f owner Desc true stamp g x e (stop_of e (WrongOwner g x) is) type.found
-took_unowned v _ f owner _ g x is telling (pages.TookDesc.read y w r type validated) = validated_unowned y w f r g x is validated
-
--- so it shows the word of the frame
-page_shows : (v w : PortValue) (f owner : ℕ) (r : Result ℕ Stop) (g x : ℕ) → r ≡ Err (Refused (WrongOwner g x)) → is_telling v ≡ true → NoneDies (told_word v) → GotDesc v f owner w r → is_dying x ≡ false
-page_shows v _ f owner _ g x is telling n (pages.GotDesc.unreferred w e ref) =
-    ref_shows v w f owner g x (subst (λ y. GotRef v w f owner (Err y)) (got_stop e (WrongOwner g x) is) ref) telling n
-page_shows v _ f owner _ g x is telling n (pages.GotDesc.untaken u w e ref took) =
-    absurd (took_unowned u w f owner (Err e) g x (ap (λ y. Err y) (got_stop e (WrongOwner g x) is)) (came_telling v u (ref_came v u f owner (Ok f) ref) ∙ telling) took)
-page_shows v _ f owner _ g x is telling n (pages.GotDesc.had u w ref took) = absurd cc
-
--- behind calls that let no frame die
-page_behind : (v a w : PortValue) (f owner g x : ℕ) → Settling v a → IsMachine v.post.machine → is_telling v ≡ true → NoneDies (told_word v) → GotDesc a f owner w (Err (Refused (WrongOwner g x))) → is_dying x ≡ false
-page_behind v a w f owner g x s machine telling n page = page_shows a w f owner (Err (Refused (WrongOwner g x))) g x refl (came_telling v a s.came ∙ telling) (s.none machine telling n) page
-
--- ---- a page of ordinary memory
-memory_unowned : (v w : PortValue) (f owner : ℕ) (r : Result (Unit {0}) Stop) (g x : ℕ) → r ≡ Err (Refused (WrongOwner g x)) → is_telling v ≡ true → TookPage v f owner w r → ⊥
-memory_unowned v _ f owner _ g x is telling (memory.TookPage.counted w type) = absurd cc
-memory_unowned v _ f owner _ g x is telling (memory.TookPage.untyped u w e type gave) = untyped v u f (level_type 0) g x e (stop_of e (WrongOwner g x) is) telling type.plain
-memory_unowned v _ f owner _ g x is telling (memory.TookPage.waiting u w own stamp e type left) = unwaited v u f owner (level_type 0) own stamp g x e (stop_of e (WrongOwner g x) is) type.found
-
-memory_shows : (v w : PortValue) (f owner : ℕ) (r : Result ℕ Stop) (g x : ℕ) → r ≡ Err (Refused (WrongOwner g x)) → is_telling v ≡ true → NoneDies (told_word v) → GotPage v f owner w r → is_dying x ≡ false
-memory_shows v _ f owner _ g x is telling n (memory.GotPage.unreferred w e ref) =
-    ref_shows v w f owner g x (subst (λ y. GotRef v w f owner (Err y)) (got_stop e (WrongOwner g x) is) ref) telling n
-memory_shows v _ f owner _ g x is telling n (memory.GotPage.refused u w e ref took) =
-    absurd (memory_unowned u w f owner (Err e) g x (ap (λ y. Err y) (got_stop e (WrongOwner g x) is)) (came_telling v u (ref_came v u f owner (Ok f) ref) ∙ telling) took)
-memory_shows v _ f owner _ g x is telling n (memory.GotPage.had u w ref took) = absurd cc
-
-memory_counted : (v w : PortValue) (f owner : ℕ) (r : Result (Unit {0}) Stop) → r ≡ Ok tt → TookPage v f owner w r → Settling v w
-memory_counted v _ f owner _ is (memory.TookPage.counted w type) = type_settling v w f owner 0 types.Counted type
-memory_counted v _ f owner _ is (memory.TookPage.untyped u w e type gave) = absurd cc
-memory_counted v _ f owner _ is (memory.TookPage.waiting u w own stamp e type left) = absurd cc
-
-memory_settling : (v w : PortValue) (f owner : ℕ) (r : Result ℕ Stop) (g : ℕ) → r ≡ Ok g → GotPage v f owner w r → Settling v w
-memory_settling v _ f owner _ g is (memory.GotPage.unreferred w e ref) = absurd cc
-memory_settling v _ f owner _ g is (memory.GotPage.refused u w e ref took) = absurd cc
-memory_settling v _ f owner _ g is (memory.GotPage.had u w ref took) = settling_then v u w (had_settling v u f owner f ref) (memory_counted u w f owner (Ok tt) refl took)
+use Rattle.shown_words.proofs.Base.{Settling, nothing_settling, ref_shows, settling_then}
+use Rattle.shown_words.proofs.PageCalls.{AreOffRefs, memory_settling, memory_shows, memory_unowned, off_both, off_does, off_only, off_then, off_where, page_behind, page_settling, stop_of, took_unowned}
+use Rattle.shown_words.proofs.Base.{look_settling}
+use Rattle.std.proofs.Common.{◌-◌, ◌+◌, ◌&&◌, not}
+use Rattle.xp_words.specs.declared.context.LdtBase.{LdtBase}
+use Rattle.xp_words.specs.declared.kind.PageType.TheVariants.{L4}
+use Rattle.xp_words.specs.Entries.{frame_of, is_bit, is_slot}
+use Rattle.tlb_walks.specs.Addresses.{index_of, walk_refusal}
+use Rattle.tlb_walks.specs.Translating.{Walks}
+use Rattle.tlb_walks.specs.Walks as walks
+use Rattle.tlb_walks.specs.Walks.{EntryBy, PathBy, WalkBy, barrier_with, base_visit, saw_entry, sets_bits}
+use Rattle.tlb_walks.specs.declared.walks.Walked.{Walked}
+use Rattle.ldt_pages.specs.Touching as touching
+use Rattle.ldt_pages.specs.Touching.{FoundPage, LdtTouched, TouchesLdt, touch_address}
 
 -- ---- whole pages
 cleared_by : (v : PortValue) (d f : ℕ) (w : PortValue) (r : Result (Unit {0}) Stop) (g x : ℕ) → r ≡ Err (Refused (WrongOwner g x)) → is_telling v ≡ true → NoneDies (told_word v) → ClearsPage v d f w r → is_dying x ≡ false
@@ -171,3 +59,139 @@ module _ (v : PortValue) (d to from g x : ℕ) (machine : IsMachine v.post.machi
 
 pub copied_shows : (v : PortValue) (d to from : ℕ) (words : List ℕ) (w : PortValue) (g x : ℕ) → IsMachine v.post.machine → is_telling v ≡ true → NoneDies (told_word v) → CopiesPage v d to from words w (Err (Refused (WrongOwner g x))) → is_dying x ≡ false
 copied_shows v d to from words w g x machine telling n a = copied_by v d to from g x machine telling n words w (Err (Refused (WrongOwner g x))) refl a
+
+-- ---- descriptor tables
+taken_settling : (v : PortValue) (d : ℕ) (fs : List ℕ) (k : ℕ) (w : PortValue) → TookPages v d fs k w → Settling v w
+taken_settling v d fs _ _ gdt.TookPages.none = nothing_settling v
+taken_settling v d fs _ _ (gdt.TookPages.more k u w before page) = settling_then v u w (taken_settling v d fs k u before) (page_settling u w (get_or fs k 0) d (Ok (get_or fs k 0)) (get_or fs k 0) refl page)
+
+-- what the numbers alone refuse is never an owner
+gdt_numbers : (entries : ℕ) (fs : List ℕ) (r : Refusal) (g x : ℕ) → r ≡ WrongOwner g x → gdt_refusal entries fs ≡ Some r → ⊥
+gdt_numbers entries fs r g x is = by (is_bad_gdt entries (length fs))
+  where
+    by : (b : Bool) → (if b then Some refusals.BadRange else None) ≡ Some r → ⊥
+    by true e = absurd cc
+    by false e = absurd cc
+
+ldt_numbers : (address entries : ℕ) (r : Refusal) (g x : ℕ) → r ≡ WrongOwner g x → ldt_refusal address entries ≡ Some r → ⊥
+ldt_numbers address entries r g x is = by (is_bad_ldt address entries) (is_canonical address)
+  where
+    by : (b c : Bool) → (if b then Some refusals.BadRange else if c then None else Some refusals.NonCanonical) ≡ Some r → ⊥
+    by true c e = absurd cc
+    by false true e = absurd cc
+    by false false e = absurd cc
+
+descriptor_numbers : (address : ℕ) (r : Refusal) (g x : ℕ) → r ≡ WrongOwner g x → descriptor_refusal address ≡ Some r → ⊥
+descriptor_numbers address r g x is = by (address % 8 == 0)
+  where
+    by : (b : Bool) → (if b then None else Some refusals.BadRange) ≡ Some r → ⊥
+    by true e = absurd cc
+    by false e = absurd cc
+
+same_refusal : (r s : Refusal) → ◌≡◌ {A = Result (Unit {0}) Stop} (Err (Refused r)) (Err (Refused s)) → r ≡ s
+same_refusal r s is = cc
+
+module _ (v : PortValue) (g x : ℕ) (machine : IsMachine v.post.machine) (telling : is_telling v ≡ true) (n : NoneDies (told_word v)) where
+  gdt_by : (entries : ℕ) (fs : List ℕ) (w : PortValue) (r : Result (Unit {0}) Stop) → r ≡ Err (Refused (WrongOwner g x)) → SetsGdt v entries fs w r → is_dying x ≡ false
+  gdt_by entries fs _ _ is (gdt.SetsGdt.barred y bars) = absurd (gdt_numbers entries fs y g x (same_refusal y (WrongOwner g x) is) bars)
+  gdt_by entries fs _ _ is (gdt.SetsGdt.untaken k a b w e free took below page gives) =
+      page_behind v a b (get_or fs k 0) (own_domain v) g x (taken_settling v (own_domain v) fs k a took) machine telling n
+      (subst (λ y. GotDesc a (get_or fs k 0) (own_domain v) b (Err y)) (stop_of e (WrongOwner g x) is) page)
+  gdt_by entries fs _ _ is (gdt.SetsGdt.set a w free took names) = absurd cc
+
+  ldt_by : (address entries : ℕ) (w : PortValue) (r : Result (Unit {0}) Stop) → r ≡ Err (Refused (WrongOwner g x)) → SetsLdt v address entries w r → is_dying x ≡ false
+  ldt_by address entries _ _ is (ldt.SetsLdt.barred y bars) = absurd (ldt_numbers address entries y g x (same_refusal y (WrongOwner g x) is) bars)
+  ldt_by address entries _ _ is (ldt.SetsLdt.set u w old free names stores) = absurd cc
+
+pub gdt_shows : (v w : PortValue) (entries : ℕ) (frames : List ℕ) (g x : ℕ) → IsMachine v.post.machine → is_telling v ≡ true → NoneDies (told_word v) → GdtSet v w entries frames (Err (Refused (WrongOwner g x))) → is_dying x ≡ false
+gdt_shows v w entries frames g x machine telling n a = gdt_by v g x machine telling n entries frames w (Err (Refused (WrongOwner g x))) refl a.course
+
+pub ldt_shows : (v : PortValue) (address entries : ℕ) (w : PortValue) (g x : ℕ) → IsMachine v.post.machine → is_telling v ≡ true → NoneDies (told_word v) → SetsLdt v address entries w (Err (Refused (WrongOwner g x))) → is_dying x ≡ false
+ldt_shows v address entries w g x machine telling n a = ldt_by v g x machine telling n address entries w (Err (Refused (WrongOwner g x))) refl a
+
+-- ---- one descriptor
+under_unowned : (v w : PortValue) (f owner : ℕ) (want : PageType) (r : Result (Unit {0}) Stop) (g x : ℕ) → r ≡ Err (Refused (WrongOwner g x)) → is_telling v ≡ true → TookAs v f owner want w r → ⊥
+under_unowned v _ f owner _ _ g x is telling (update.TookAs.as_desc w r took) = took_unowned v w f owner r g x is telling took
+under_unowned v _ f owner _ _ g x is telling (update.TookAs.as_memory w r took) = memory_unowned v w f owner r g x is telling took
+
+stored_unowned : (v w : PortValue) (f owner i new : ℕ) (want : PageType) (r : Result (Unit {0}) Stop) (g x : ℕ) → r ≡ Err (Refused (WrongOwner g x)) → is_telling v ≡ true → StoredUnder v f owner i new want w r → ⊥
+stored_unowned v w f owner i new want _ g x is telling (update.StoredUnder.untaken y found e saw wanted took) =
+    under_unowned y w f owner want (Err e) g x is (came_telling v y (moves_came v y (Kind f) _ _ None found saw) ∙ telling) took
+stored_unowned v w f owner i new want _ g x is telling (update.StoredUnder.stored y z u found old saw wanted took stores gave) = absurd cc
+
+module _ (v : PortValue) (address word g x : ℕ) (telling : is_telling v ≡ true) (n : NoneDies (told_word v)) where
+  descriptor_by : (want : PageType) (w : PortValue) (r : Result (Unit {0}) Stop) → r ≡ Err (Refused (WrongOwner g x)) → UpdatesDescriptor v address word want w r → is_dying x ≡ false
+  descriptor_by _ _ _ is (update.UpdatesDescriptor.barred y bars) = absurd (descriptor_numbers address y g x (same_refusal y (WrongOwner g x) is) bars)
+  descriptor_by _ _ _ is (update.UpdatesDescriptor.unreferred w e free ref) =
+      ref_shows v w (frame_at address) (own_domain v) g x (subst (λ y. GotRef v w (frame_at address) (own_domain v) (Err y)) (stop_of e (WrongOwner g x) is) ref) telling n
+  descriptor_by _ _ _ is (update.UpdatesDescriptor.unfixed u w free ref none gave) = absurd cc
+  descriptor_by _ _ _ is (update.UpdatesDescriptor.referred u w new want r free ref fixed under) =
+      absurd (stored_unowned u w (frame_at address) (own_domain v) (index_at address) new want r g x is
+      (came_telling v u (ref_came v u (frame_at address) (own_domain v) (Ok (frame_at address)) ref) ∙ telling) under)
+
+pub descriptor_shows : (v w : PortValue) (address word g x : ℕ) → IsMachine v.post.machine → is_telling v ≡ true → NoneDies (told_word v) → DescriptorUpdated v w address word (Err (Refused (WrongOwner g x))) → is_dying x ≡ false
+descriptor_shows v w address word g x machine telling n a = descriptor_by v address word g x telling n a.want w (Err (Refused (WrongOwner g x))) refl a.course
+
+-- ---- a page of the own LDT
+entry_off : (table i w new found : ℕ) (vs : List Visit) → EntryBy table i w new found vs → AreOffRefs vs
+entry_off table i w new found vs a = off_then (Only (saw_entry table i w)) _ (off_only _ tt) (off_where (is_bit 0 w && not (new == w)) (Only (sets_bits table i w new found)) (off_only _ tt)) vs a
+
+module _ (n : Machine) (va : ℕ) (write : Bool) (answer : Result Walked Stop) where
+  path_off : (level table : ℕ) (barrier : Option ℕ) (vs : List Visit) → PathBy n va write answer level table barrier vs → AreOffRefs vs
+  path_off _ _ _ _ (walks.PathBy.ends level table barrier vs w found entry ends) = entry_off table (index_of va level) w _ found vs entry
+  path_off _ _ _ _ (walks.PathBy.goes level table barrier vs first rest w deep mapped entry more list) =
+      subst AreOffRefs (sym list) (off_both first rest (entry_off table (index_of va level) w _ w first entry) (path_off (level - 1) (frame_of w) (barrier_with barrier w) rest more))
+
+  walk_off : (s : ℕ) (user : Bool) (vs : List Visit) → WalkBy n s user va write answer vs → AreOffRefs vs
+  walk_off s user vs (walks.WalkBy.barred y bars is none) = subst AreOffRefs (sym none) tt
+  walk_off s user vs (walks.WalkBy.baseless free is only) = off_only _ tt vs only
+  walk_off s user vs (walks.WalkBy.walks base free some down) = off_then (Only (base_visit s user write base)) _ (off_only _ tt) (path_off 4 (base - 1) None) vs down
+
+walk_settling : (v w : PortValue) (user : Bool) (va : ℕ) (write : Bool) (entry : ℕ) → Walks v w user va write (Ok entry) → Settling v w
+walk_settling v w user va write entry (barrier, does, hand) = off_does v w _ (walk_off v.post.machine va write _ v.post.vcpu user) does
+
+-- a walk is never refused for an owner
+walk_numbers : (va : ℕ) (r : Refusal) (g x : ℕ) → r ≡ WrongOwner g x → walk_refusal va ≡ Some r → ⊥
+walk_numbers va r g x is = by (is_canonical va) (is_slot L4 (index_of va 4))
+  where
+    by : (b c : Bool) → (if b then (if c then Some (refusals.Slot (index_of va 4)) else None) else Some refusals.NonCanonical) ≡ Some r → ⊥
+    by true true e = absurd cc
+    by true false e = absurd cc
+    by false c e = absurd cc
+
+walked_refusal : (r s : Refusal) → ◌≡◌ {A = Result Walked Stop} (Err (Refused r)) (Err (Refused s)) → r ≡ s
+walked_refusal r s is = cc
+
+module _ (n : Machine) (va : ℕ) (write : Bool) (g x : ℕ) where
+  path_unowned : (level table : ℕ) (barrier : Option ℕ) (vs : List Visit) → PathBy n va write (Err (Refused (WrongOwner g x))) level table barrier vs → ⊥
+  path_unowned _ _ _ _ (walks.PathBy.ends level table barrier vs w found entry ends) = ends
+  path_unowned _ _ _ _ (walks.PathBy.goes level table barrier vs first rest w deep mapped entry more list) = path_unowned (level - 1) (frame_of w) (barrier_with barrier w) rest more
+
+  walk_unowned : (s : ℕ) (user : Bool) (vs : List Visit) → WalkBy n s user va write (Err (Refused (WrongOwner g x))) vs → ⊥
+  walk_unowned s user vs (walks.WalkBy.barred y bars is none) = walk_numbers va y g x (sym (walked_refusal (WrongOwner g x) y is)) bars
+  walk_unowned s user vs (walks.WalkBy.baseless free is only) = absurd cc
+  walk_unowned s user vs (walks.WalkBy.walks base free some down) = path_unowned 4 (base - 1) None down.after down.next
+
+unwalked : (v w : PortValue) (user : Bool) (va : ℕ) (write : Bool) (g x : ℕ) (e : Stop) → e ≡ Refused (WrongOwner g x) → Walks v w user va write (Err e) → ⊥
+unfolding Does
+unwalked v w user va write g x e is a =
+    let b = subst (λ y. Walks v w user va write (Err y)) is a in
+    walk_unowned v.post.machine va write g x v.post.vcpu user _ b.0.2
+
+seen_settling : (v w : PortValue) (page base : ℕ) (b : LdtBase) (word : ℕ) → FoundPage v w page base b word → Settling v w
+seen_settling v w page base b word a =
+    settling_then v a.seen w (look_settling v a.seen (Vcpu v.post.vcpu 7) _ None base a.based.looks) (look_settling a.seen w (Vcpu v.post.vcpu (22 + page)) _ None word a.looks)
+
+module _ (v : PortValue) (page g x : ℕ) (machine : IsMachine v.post.machine) (telling : is_telling v ≡ true) (n : NoneDies (told_word v)) where
+  touched_by : (base : ℕ) (frame : Option ℕ) (w : PortValue) (r : Result (Unit {0}) Stop) → r ≡ Err (Refused (WrongOwner g x)) → TouchesLdt v page base frame w r → is_dying x ≡ false
+  touched_by base _ _ _ is (touching.TouchesLdt.beyond w b found far) = absurd cc
+  touched_by base _ _ _ is (touching.TouchesLdt.held w b word found some) = absurd cc
+  touched_by base _ _ _ is (touching.TouchesLdt.unwalked u w b e found walked) = absurd (unwalked u w false (touch_address page b) false g x e (stop_of e (WrongOwner g x) is) walked)
+  touched_by base _ _ _ is (touching.TouchesLdt.untaken u y w b entry e found walked taken) =
+      page_behind v y w (frame_of entry) (own_domain v) g x
+      (settling_then v u y (seen_settling v u page base b 0 found) (walk_settling u y false (touch_address page b) false entry walked)) machine telling n
+      (subst (λ z. GotDesc y (frame_of entry) (own_domain v) w (Err z)) (stop_of e (WrongOwner g x) is) taken)
+  touched_by base _ _ _ is (touching.TouchesLdt.touched u y z w b entry found walked taken names) = absurd cc
+
+pub touched_shows : (v w : PortValue) (page g x : ℕ) → IsMachine v.post.machine → is_telling v ≡ true → NoneDies (told_word v) → LdtTouched v w page (Err (Refused (WrongOwner g x))) → is_dying x ≡ false
+touched_shows v w page g x machine telling n a = touched_by v page g x machine telling n a.base a.frame w (Err (Refused (WrongOwner g x))) refl a.course
