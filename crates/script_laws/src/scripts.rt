@@ -17,6 +17,7 @@ use refusal_laws::{
     an_acquisition_that_is_had_touches_no_other_words, paused_calls_leave_a_kept_table,
 };
 use release_laws::{a_paused_release_leaves_the_rest, a_release_leaves_what_the_plain_one_leaves};
+use shown_words::a_refusal_shows_settled_words;
 use solo_entries::{
     a_pair_comes_to_its_plain_meaning, an_update_by_address_comes_to_its_plain_meaning,
 };
@@ -41,4 +42,5 @@ pub fn preemption_is_invisible()
     a_pair_comes_to_its_plain_meaning();
     an_update_by_address_comes_to_its_plain_meaning();
     an_extent_alone_comes_to_its_plain_meaning();
+    a_refusal_shows_settled_words();
 }

@@ -115,7 +115,8 @@ took_unowned v _ f owner _ g x is telling (pages.TookDesc.waiting y w stamp e ty
 took_unowned v _ f owner _ g x is telling (pages.TookDesc.read y w r type validated) = validated_unowned y w f r g x is validated
 
 -- so it shows the word of the frame
-page_shows : (v w : PortValue) (f owner : ℕ) (r : Result ℕ Stop) (g x : ℕ) → r ≡ Err (Refused (WrongOwner g x)) → is_telling v ≡ true → NoneDies (told_word v) → GotDesc v f owner w r → is_dying x ≡ false
+page_shows : (v w : PortValue) (f owner : ℕ) (r : Result ℕ Stop) (g x : ℕ) → r ≡ Err (Refused (WrongOwner g x)) → is_telling v ≡ true → NoneDies (told_word v) →
+    GotDesc v f owner w r → is_dying x ≡ false
 page_shows v _ f owner _ g x is telling n (pages.GotDesc.unreferred w e ref) =
     ref_shows v w f owner g x (subst (λ y. GotRef v w f owner (Err y)) (got_stop e (WrongOwner g x) is) ref) telling n
 page_shows v _ f owner _ g x is telling n (pages.GotDesc.untaken u w e ref took) =
@@ -123,7 +124,8 @@ page_shows v _ f owner _ g x is telling n (pages.GotDesc.untaken u w e ref took)
 page_shows v _ f owner _ g x is telling n (pages.GotDesc.had u w ref took) = absurd cc
 
 -- behind calls that let no frame die
-pub page_behind : (v a w : PortValue) (f owner g x : ℕ) → Settling v a → IsMachine v.post.machine → is_telling v ≡ true → NoneDies (told_word v) → GotDesc a f owner w (Err (Refused (WrongOwner g x))) → is_dying x ≡ false
+pub page_behind : (v a w : PortValue) (f owner g x : ℕ) → Settling v a → IsMachine v.post.machine → is_telling v ≡ true → NoneDies (told_word v) →
+    GotDesc a f owner w (Err (Refused (WrongOwner g x))) → is_dying x ≡ false
 page_behind v a w f owner g x s machine telling n page = page_shows a w f owner (Err (Refused (WrongOwner g x))) g x refl (came_telling v a s.came ∙ telling) (s.none machine telling n) page
 
 -- ---- a page of ordinary memory
@@ -132,7 +134,8 @@ memory_unowned v _ f owner _ g x is telling (memory.TookPage.counted w type) = a
 memory_unowned v _ f owner _ g x is telling (memory.TookPage.untyped u w e type gave) = untyped v u f (level_type 0) g x e (stop_of e (WrongOwner g x) is) telling type.plain
 memory_unowned v _ f owner _ g x is telling (memory.TookPage.waiting u w own stamp e type left) = unwaited v u f owner (level_type 0) own stamp g x e (stop_of e (WrongOwner g x) is) type.found
 
-pub memory_shows : (v w : PortValue) (f owner : ℕ) (r : Result ℕ Stop) (g x : ℕ) → r ≡ Err (Refused (WrongOwner g x)) → is_telling v ≡ true → NoneDies (told_word v) → GotPage v f owner w r → is_dying x ≡ false
+pub memory_shows : (v w : PortValue) (f owner : ℕ) (r : Result ℕ Stop) (g x : ℕ) → r ≡ Err (Refused (WrongOwner g x)) → is_telling v ≡ true → NoneDies (told_word v) →
+    GotPage v f owner w r → is_dying x ≡ false
 memory_shows v _ f owner _ g x is telling n (memory.GotPage.unreferred w e ref) =
     ref_shows v w f owner g x (subst (λ y. GotRef v w f owner (Err y)) (got_stop e (WrongOwner g x) is) ref) telling n
 memory_shows v _ f owner _ g x is telling n (memory.GotPage.refused u w e ref took) =

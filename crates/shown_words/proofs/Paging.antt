@@ -1,5 +1,5 @@
 -- Operations on whole pages and descriptor tables: what they refuse for an owner shows no frame that is just being given back.
-use Rattle.std.proofs.Common.{◌≡◌, ℕ, ◌%◌, ◌==◌, if◌then◌else◌, Bool, true, false, List, length, get_or, Option, Some, None, Result, Ok, Err, refl, sym, ap, ◌∙◌, subst}
+use Rattle.std.proofs.Common.{◌≡◌, ℕ, ◌+◌, ◌-◌, ◌%◌, ◌==◌, ◌&&◌, not, if◌then◌else◌, Bool, true, false, List, length, get_or, Option, Some, None, Result, Ok, Err, refl, sym, ap, ◌∙◌, subst}
 use Rattle.xp_words.specs.Machine.{IsMachine, Machine}
 use Rattle.xp_words.specs.declared.kind.PageType.{PageType}
 use Rattle.xp_words.specs.declared.place.Place.TheVariants.{Kind, Vcpu}
@@ -25,11 +25,6 @@ use Rattle.desc_pages.specs.Gdt.{GdtSet, SetsGdt, TookPages, gdt_refusal, is_bad
 use Rattle.desc_pages.specs.Ldt as ldt
 use Rattle.desc_pages.specs.Ldt.{SetsLdt, is_bad_ldt, is_canonical, ldt_refusal}
 use Rattle.desc_pages.specs.Names.{own_domain}
-use Rattle.shown_words.specs.Shown.{NoneDies}
-use Rattle.shown_words.proofs.Base.{Settling, nothing_settling, ref_shows, settling_then}
-use Rattle.shown_words.proofs.PageCalls.{AreOffRefs, memory_settling, memory_shows, memory_unowned, off_both, off_does, off_only, off_then, off_where, page_behind, page_settling, stop_of, took_unowned}
-use Rattle.shown_words.proofs.Base.{look_settling}
-use Rattle.std.proofs.Common.{◌-◌, ◌+◌, ◌&&◌, not}
 use Rattle.xp_words.specs.declared.context.LdtBase.{LdtBase}
 use Rattle.xp_words.specs.declared.kind.PageType.TheVariants.{L4}
 use Rattle.xp_words.specs.Entries.{frame_of, is_bit, is_slot}
@@ -40,13 +35,18 @@ use Rattle.tlb_walks.specs.Walks.{EntryBy, PathBy, WalkBy, barrier_with, base_vi
 use Rattle.tlb_walks.specs.declared.walks.Walked.{Walked}
 use Rattle.ldt_pages.specs.Touching as touching
 use Rattle.ldt_pages.specs.Touching.{FoundPage, LdtTouched, TouchesLdt, touch_address}
+use Rattle.shown_words.specs.Shown.{NoneDies}
+use Rattle.shown_words.proofs.Base.{Settling, look_settling, nothing_settling, ref_shows, settling_then}
+use Rattle.shown_words.proofs.PageCalls.{AreOffRefs, memory_settling, memory_shows, memory_unowned, off_both, off_does, off_only, off_then, off_where, page_behind, page_settling, stop_of, took_unowned}
 
 -- ---- whole pages
-cleared_by : (v : PortValue) (d f : ℕ) (w : PortValue) (r : Result (Unit {0}) Stop) (g x : ℕ) → r ≡ Err (Refused (WrongOwner g x)) → is_telling v ≡ true → NoneDies (told_word v) → ClearsPage v d f w r → is_dying x ≡ false
+cleared_by : (v : PortValue) (d f : ℕ) (w : PortValue) (r : Result (Unit {0}) Stop) (g x : ℕ) → r ≡ Err (Refused (WrongOwner g x)) → is_telling v ≡ true →
+    NoneDies (told_word v) → ClearsPage v d f w r → is_dying x ≡ false
 cleared_by v d f _ _ g x is telling n (whole.ClearsPage.unhad w e page) = memory_shows v w f d (Err e) g x (ap (λ y. Err y) (stop_of e (WrongOwner g x) is)) telling n page
 cleared_by v d f _ _ g x is telling n (whole.ClearsPage.cleared a b w page clears gave) = absurd cc
 
-pub cleared_shows : (v : PortValue) (d f : ℕ) (w : PortValue) (g x : ℕ) → IsMachine v.post.machine → is_telling v ≡ true → NoneDies (told_word v) → ClearsPage v d f w (Err (Refused (WrongOwner g x))) → is_dying x ≡ false
+pub cleared_shows : (v : PortValue) (d f : ℕ) (w : PortValue) (g x : ℕ) → IsMachine v.post.machine → is_telling v ≡ true → NoneDies (told_word v) →
+    ClearsPage v d f w (Err (Refused (WrongOwner g x))) → is_dying x ≡ false
 cleared_shows v d f w g x machine telling n a = cleared_by v d f w (Err (Refused (WrongOwner g x))) g x refl telling n a
 
 module _ (v : PortValue) (d to from g x : ℕ) (machine : IsMachine v.post.machine) (telling : is_telling v ≡ true) (n : NoneDies (told_word v)) where
@@ -57,7 +57,8 @@ module _ (v : PortValue) (d to from g x : ℕ) (machine : IsMachine v.post.machi
       ref_shows a b from d g x (subst (λ y. GotRef a b from d (Err y)) (stop_of e (WrongOwner g x) is) ref) (came_telling v a s.came ∙ telling) (s.none machine telling n)
   copied_by words _ _ is (whole.CopiesPage.copied a b c e w all page ref copies gave back) = absurd cc
 
-pub copied_shows : (v : PortValue) (d to from : ℕ) (words : List ℕ) (w : PortValue) (g x : ℕ) → IsMachine v.post.machine → is_telling v ≡ true → NoneDies (told_word v) → CopiesPage v d to from words w (Err (Refused (WrongOwner g x))) → is_dying x ≡ false
+pub copied_shows : (v : PortValue) (d to from : ℕ) (words : List ℕ) (w : PortValue) (g x : ℕ) → IsMachine v.post.machine → is_telling v ≡ true → NoneDies (told_word v) →
+    CopiesPage v d to from words w (Err (Refused (WrongOwner g x))) → is_dying x ≡ false
 copied_shows v d to from words w g x machine telling n a = copied_by v d to from g x machine telling n words w (Err (Refused (WrongOwner g x))) refl a
 
 -- ---- descriptor tables
@@ -103,10 +104,12 @@ module _ (v : PortValue) (g x : ℕ) (machine : IsMachine v.post.machine) (telli
   ldt_by address entries _ _ is (ldt.SetsLdt.barred y bars) = absurd (ldt_numbers address entries y g x (same_refusal y (WrongOwner g x) is) bars)
   ldt_by address entries _ _ is (ldt.SetsLdt.set u w old free names stores) = absurd cc
 
-pub gdt_shows : (v w : PortValue) (entries : ℕ) (frames : List ℕ) (g x : ℕ) → IsMachine v.post.machine → is_telling v ≡ true → NoneDies (told_word v) → GdtSet v w entries frames (Err (Refused (WrongOwner g x))) → is_dying x ≡ false
+pub gdt_shows : (v w : PortValue) (entries : ℕ) (frames : List ℕ) (g x : ℕ) → IsMachine v.post.machine → is_telling v ≡ true → NoneDies (told_word v) →
+    GdtSet v w entries frames (Err (Refused (WrongOwner g x))) → is_dying x ≡ false
 gdt_shows v w entries frames g x machine telling n a = gdt_by v g x machine telling n entries frames w (Err (Refused (WrongOwner g x))) refl a.course
 
-pub ldt_shows : (v : PortValue) (address entries : ℕ) (w : PortValue) (g x : ℕ) → IsMachine v.post.machine → is_telling v ≡ true → NoneDies (told_word v) → SetsLdt v address entries w (Err (Refused (WrongOwner g x))) → is_dying x ≡ false
+pub ldt_shows : (v : PortValue) (address entries : ℕ) (w : PortValue) (g x : ℕ) → IsMachine v.post.machine → is_telling v ≡ true → NoneDies (told_word v) →
+    SetsLdt v address entries w (Err (Refused (WrongOwner g x))) → is_dying x ≡ false
 ldt_shows v address entries w g x machine telling n a = ldt_by v g x machine telling n address entries w (Err (Refused (WrongOwner g x))) refl a
 
 -- ---- one descriptor
@@ -114,7 +117,8 @@ under_unowned : (v w : PortValue) (f owner : ℕ) (want : PageType) (r : Result 
 under_unowned v _ f owner _ _ g x is telling (update.TookAs.as_desc w r took) = took_unowned v w f owner r g x is telling took
 under_unowned v _ f owner _ _ g x is telling (update.TookAs.as_memory w r took) = memory_unowned v w f owner r g x is telling took
 
-stored_unowned : (v w : PortValue) (f owner i new : ℕ) (want : PageType) (r : Result (Unit {0}) Stop) (g x : ℕ) → r ≡ Err (Refused (WrongOwner g x)) → is_telling v ≡ true → StoredUnder v f owner i new want w r → ⊥
+stored_unowned : (v w : PortValue) (f owner i new : ℕ) (want : PageType) (r : Result (Unit {0}) Stop) (g x : ℕ) → r ≡ Err (Refused (WrongOwner g x)) → is_telling v ≡ true →
+    StoredUnder v f owner i new want w r → ⊥
 stored_unowned v w f owner i new want _ g x is telling (update.StoredUnder.untaken y found e saw wanted took) =
     under_unowned y w f owner want (Err e) g x is (came_telling v y (moves_came v y (Kind f) _ _ None found saw) ∙ telling) took
 stored_unowned v w f owner i new want _ g x is telling (update.StoredUnder.stored y z u found old saw wanted took stores gave) = absurd cc
@@ -129,7 +133,8 @@ module _ (v : PortValue) (address word g x : ℕ) (telling : is_telling v ≡ tr
       absurd (stored_unowned u w (frame_at address) (own_domain v) (index_at address) new want r g x is
       (came_telling v u (ref_came v u (frame_at address) (own_domain v) (Ok (frame_at address)) ref) ∙ telling) under)
 
-pub descriptor_shows : (v w : PortValue) (address word g x : ℕ) → IsMachine v.post.machine → is_telling v ≡ true → NoneDies (told_word v) → DescriptorUpdated v w address word (Err (Refused (WrongOwner g x))) → is_dying x ≡ false
+pub descriptor_shows : (v w : PortValue) (address word g x : ℕ) → IsMachine v.post.machine → is_telling v ≡ true → NoneDies (told_word v) →
+    DescriptorUpdated v w address word (Err (Refused (WrongOwner g x))) → is_dying x ≡ false
 descriptor_shows v w address word g x machine telling n a = descriptor_by v address word g x telling n a.want w (Err (Refused (WrongOwner g x))) refl a.course
 
 -- ---- a page of the own LDT
@@ -193,5 +198,6 @@ module _ (v : PortValue) (page g x : ℕ) (machine : IsMachine v.post.machine) (
       (subst (λ z. GotDesc y (frame_of entry) (own_domain v) w (Err z)) (stop_of e (WrongOwner g x) is) taken)
   touched_by base _ _ _ is (touching.TouchesLdt.touched u y z w b entry found walked taken names) = absurd cc
 
-pub touched_shows : (v w : PortValue) (page g x : ℕ) → IsMachine v.post.machine → is_telling v ≡ true → NoneDies (told_word v) → LdtTouched v w page (Err (Refused (WrongOwner g x))) → is_dying x ≡ false
+pub touched_shows : (v w : PortValue) (page g x : ℕ) → IsMachine v.post.machine → is_telling v ≡ true → NoneDies (told_word v) →
+    LdtTouched v w page (Err (Refused (WrongOwner g x))) → is_dying x ≡ false
 touched_shows v w page g x machine telling n a = touched_by v page g x machine telling n a.base a.frame w (Err (Refused (WrongOwner g x))) refl a.course

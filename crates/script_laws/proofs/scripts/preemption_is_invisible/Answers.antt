@@ -17,4 +17,12 @@ returns c a d v w x opens turned retired fair fresh =
       tells = c.paused_calls_leave_a_kept_table.ensures.telling;
       spares = c.an_acquisition_that_is_had_touches_no_other_words.ensures;
     })
-    c.a_call_alone_is_neither_lost_nor_busy.ensures (keeps_write_on c.alone_stays.ensures) c.a_pair_comes_to_its_plain_meaning.ensures c.an_update_by_address_comes_to_its_plain_meaning.ensures c.an_extent_alone_comes_to_its_plain_meaning.ensures a d v w x opens turned retired fair fresh
+    c.a_call_alone_is_neither_lost_nor_busy.ensures (keeps_write_on c.alone_stays.ensures) c.a_pair_comes_to_its_plain_meaning.ensures c.an_update_by_address_comes_to_its_plain_meaning.ensures
+    (record {
+      elements = c.a_refusal_shows_settled_words.ensures.elements;
+      words = c.a_refusal_shows_settled_words.ensures.words;
+      mapped = c.a_refusal_shows_settled_words.ensures.mapped;
+      descriptors = c.a_refusal_shows_settled_words.ensures.descriptors;
+      extents = c.a_refusal_shows_settled_words.ensures.extents;
+    })
+    c.an_extent_alone_comes_to_its_plain_meaning.ensures a d v w x opens turned retired fair fresh
