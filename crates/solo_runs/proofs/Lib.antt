@@ -4,6 +4,7 @@ mod Ending
 mod Finishing
 mod Marks
 mod Opening
+mod Pinning
 mod Reading
 mod Reporting
 mod Retiring
