@@ -4,6 +4,7 @@ mod Finishing
 mod Kinds
 mod Lines
 mod Opening
+mod Pinning
 mod Reading
 mod Reporting
 mod Retiring
