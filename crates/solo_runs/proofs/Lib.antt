@@ -1,7 +1,7 @@
 mod Closing
 mod Ending
 mod Finishing
-mod Kinds
+mod Printing
 mod Lines
 mod Opening
 mod Pinning

@@ -28,7 +28,7 @@ use Rattle.script_law.specs.Values.{Answer, Called, Frames, Given, IsPinned, IsU
 use Rattle.script_laws.specs.Logged.{AreLines, IsLine, IsLogged, IsReply, IsShown, IsWhyOf}
 use Rattle.script_laws.specs.Turns.{IsLog}
 use Rattle.script_laws.specs.Turns as turns
-use Rattle.solo_runs.proofs.Kinds.{kind_same}
+use Rattle.solo_runs.proofs.Printing.{kind_same}
 
 -- ---- reference words
 pub shown_ref : Option Share → ℕ

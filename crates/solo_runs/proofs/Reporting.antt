@@ -28,7 +28,7 @@ use Rattle.script_law.specs.Values.{Solo}
 use Rattle.solo_memory.proofs.Sounding.{free_is}
 use Rattle.solo_runs.specs.Finishing.{ComeToTheSame, FinishesAlone, with_turns}
 use Rattle.solo_runs.proofs.Closing.{all_answered, closing_cpus}
-use Rattle.solo_runs.proofs.Kinds.{form_same}
+use Rattle.solo_runs.proofs.Printing.{form_same}
 use Rattle.solo_runs.proofs.Lines.{logs_same, spelled}
 use Rattle.solo_runs.proofs.Opening.{none_in_hand}
 use Rattle.solo_runs.proofs.Reading.{ReadsAlike, logs_alike, reports_same}
