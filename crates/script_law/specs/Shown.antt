@@ -30,7 +30,7 @@ pub data IsShownWord (k : ℕ) : Type 0 where
   base : k < 2 → IsShownWord k
   tables : 6 < k → k < 38 → IsShownWord k
 
--- The words m of machine n are those of x, as vCPU s knows it: its frames, but for stamps and marks of flushes; machine-to-physical words; own words; privileges and lives. And the words that
+-- The words m of machine n are those of x, as vCPU s knows it: its frames, but for stamps; machine-to-physical words; own words; privileges and lives. And the words that
 -- are counted from these say so: the pages of each domain, and the map of free frames.
 pub record Shows (n : Machine) (s : ℕ) (m : Words) (x : Solo) : Type 0 where
   pub frames : Describes n m x.frames

@@ -5,8 +5,7 @@ use Rattle.xp_words.specs.RefWords.{IsRef, ref_read}
 use Rattle.xp_words.specs.declared.place.Place.TheVariants.{Refs}
 use Rattle.xp_words.specs.declared.refs.RefWord.{RefWord}
 use Rattle.xp_words.specs.declared.refs.RefWord.TheVariants.{Dying, Free, Owned}
-use Rattle.xp_words.specs.declared.reply.Refusal.{Refusal}
-use Rattle.xp_words.specs.declared.reply.Refusal.TheVariants.{AlreadyPinned, NoFrame, NotPinned, OtherType, WrongOwner}
+use Rattle.xp_words.specs.declared.reply.Refusal.TheVariants.{NoFrame, WrongOwner}
 use Rattle.xp_words.specs.declared.reply.Stop.TheVariants.{Refused}
 use Rattle.xp_words.proofs.RefLaws.{ref_write-read}
 use Rattle.xp_board.specs.Acts.{left_by}
@@ -15,7 +14,7 @@ use Rattle.xp_board.specs.Told.{PortValue, is_telling, told_word}
 use Rattle.xp_board.specs.declared.step.Act.TheVariants.{Store}
 use Rattle.xp_board.proofs.RefWords.{read_small}
 use Rattle.step_maker.specs.Plain.{Words, change}
-use Rattle.reservations.specs.Extents.{IsExtentStop, Reserves}
+use Rattle.reservations.specs.Extents.{Reserves}
 use Rattle.reservations.specs.Returning.{all_returned, cleared, cleared_in, is_own_allocated, number_at, return_refusal, returned}
 use Rattle.reservations.specs.declared.extents.Extent.{Extent}
 use Rattle.reservations.specs.declared.extents.Extent.TheVariants.{Decrease, Increase, Populate}
@@ -60,29 +59,3 @@ extent_shows v w d size (Decrease first) from to g x machine telling n a =
     let words = all_returned first from (to - from) (told_word v) in
     let f = number_at first (from + (to - from)) in
     ap is_dying (return_shows v.post.machine d f (words (Refs f)) g x (a.plain telling).ends) ∙ (all_returned_none first from (to - from) (told_word v) n f).owned
-
--- ---- kind words
--- a refusal that shows none
-abbrev pub ShowsNoKind : Refusal → Type 0
-ShowsNoKind (OtherType f want k) = ⊥
-ShowsNoKind (AlreadyPinned k) = ⊥
-ShowsNoKind (NotPinned k) = ⊥
-ShowsNoKind _ = Unit {0}
-
-stop_kinds : (e : Extent) (y : Refusal) → IsExtentStop e (Refused y) → ShowsNoKind y
-stop_kinds Increase (OtherType f want k) is = is
-stop_kinds Increase (AlreadyPinned k) is = is
-stop_kinds Increase (NotPinned k) is = is
-stop_kinds Increase _ is = tt
-stop_kinds (Decrease first) (OtherType f want k) is = is
-stop_kinds (Decrease first) (AlreadyPinned k) is = is
-stop_kinds (Decrease first) (NotPinned k) is = is
-stop_kinds (Decrease first) _ is = tt
-stop_kinds (Populate gpfn) (OtherType f want k) is = is
-stop_kinds (Populate gpfn) (AlreadyPinned k) is = is
-stop_kinds (Populate gpfn) (NotPinned k) is = is
-stop_kinds (Populate gpfn) _ is = tt
-
--- and it shows no kind word
-pub extent_kinds : (v w : PortValue) (d size : ℕ) (e : Extent) (from to : ℕ) (y : Refusal) → Reserves d size e from v to w (Err (Refused y)) → ShowsNoKind y
-extent_kinds v w d size e from to y a = stop_kinds e y a.kinds

@@ -1,13 +1,11 @@
 -- A refusal shows settled words.
-use Rattle.std.proofs.Common.{◌≡◌, ℕ, Bool, false, List, Option, Result, Err, refl, subst}
+use Rattle.std.proofs.Common.{◌≡◌, ℕ, Bool, false, List, Option, Err, refl, subst}
 use Rattle.xp_words.specs.declared.reply.Refusal.{Refusal}
 use Rattle.xp_words.specs.declared.reply.Refusal.TheVariants.{AlreadyPinned, NotPinned, OtherType, WrongOwner}
 use Rattle.xp_words.specs.declared.reply.Stop.TheVariants.{Refused}
 use Rattle.xp_board.specs.Readings.{is_dying}
 use Rattle.xp_board.specs.Told.{PortValue}
 use Rattle.foreign_map.specs.declared.owners.Owners.{Owners}
-use Rattle.step_maker.specs.Answers.{Stops}
-use Rattle.step_maker.specs.Asked.{Request}
 use Rattle.desc_pages.specs.Descriptors.{DescriptorUpdated}
 use Rattle.desc_pages.specs.Gdt.{GdtSet}
 use Rattle.ldt_pages.specs.Touching.{LdtTouched}

@@ -11,7 +11,7 @@ use Rattle.table_twins.specs.Answers.{IsCause}
 use Rattle.script_law.specs.Values.{Solo, Frames, IsPinned, IsUnpinned, Numbers, Outcome, Why}
 use Rattle.solo_ports.specs.Standing.{Owes}
 
--- A refusal is for that reason: of a word of a frame that it carries the stamp and the mark of flushes do not matter, and all other numbers are the same.
+-- A refusal is for that reason: of a word of a frame that it carries the stamp does not matter, and all other numbers are the same.
 abbrev pub IsWhy : Refusal → Why → Type 0
 IsWhy r (Frames c) = IsCause r c
 IsWhy (refusals.AlreadyPinned w) (IsPinned k) = sober (kind_fields w) ≡ k
