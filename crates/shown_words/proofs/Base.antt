@@ -13,7 +13,7 @@ use Rattle.xp_board.specs.Acts.{left_by}
 use Rattle.xp_board.specs.Readings.{is_dying, is_dying_in, is_free, owner_of, ref_count}
 use Rattle.xp_board.specs.RefSteps.{one_down, owner_number}
 use Rattle.xp_board.specs.declared.step.Act.TheVariants.{Add}
-use Rattle.xp_board.proofs.RefWords.{owned_says, read_small}
+use Rattle.xp_board.proofs.RefWords.{is_dying-read, owned_says, read_small}
 use Rattle.step_maker.specs.Plain.{Words}
 use Rattle.xp_words.specs.declared.reply.Refusal.TheVariants.{CountFull, NoFrame, WrongOwner}
 use Rattle.xp_board.specs.Readings.{is_free_in}
@@ -48,19 +48,12 @@ use Rattle.table_entries.specs.Acquiring.{TookType}
 use Rattle.shown_words.specs.Shown.{IsSettledRef, NoneDies}
 
 -- ---- words
-dying_by : (w : ℕ) (r : Option RefWord) → ref_read w ≡ r → is_dying w ≡ true → (o : ℕ) × (ref_read w ≡ Some (Dying o))
-unfolding is_dying
-dying_by w (Some (Dying o)) is on = (o, is)
-dying_by w (Some (Free stamp)) is on = absurd (let e = sym (ap (λ r. is_dying_in r) is) ∙ on in cc)
-dying_by w (Some (Owned o a c)) is on = absurd (let e = sym (ap (λ r. is_dying_in r) is) ∙ on in cc)
-dying_by w None is on = absurd (let e = sym (ap (λ r. is_dying_in r) is) ∙ on in cc)
-
 -- one less is the word of a dying frame only where it was the last reference
 last_one : (w : ℕ) → w < 2 ^ 64 → is_dying ((w + one_down) % 2 ^ 64) ≡ true → is_dying w ≡ false → ref_count w ≡ 1
 unfolding IsRef ref_write
 last_one w small on off =
     let below = (w + one_down) % 2 ^ 64 in
-    let d = dying_by below (ref_read below) refl on in
+    let d = is_dying-read below on in
     let back = ref_write-read below (Dying d.0) (read_small below (Dying d.0) d.1) d.1 in
     let low : d.0 < 2 ^ 16 = back.0 in
     let is : below ≡ 2 ^ 63 + d.0 * 2 ^ 32 = sym back.1 in

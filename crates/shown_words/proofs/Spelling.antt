@@ -34,20 +34,13 @@ frame_inside : (z : Sizes) (f : ℕ) → IsTrue (is_place z (Kind f)) → f < z.
 unfolding is_place
 frame_inside z f is = grind (arith, nat_tests)
 
-found_inside : (v w : PortValue) (f x : ℕ) → FoundAt (Met v w) (Kind f) x → f < v.post.machine.frames
-found_inside v w f x a =
-    let met = a.was in
-    let place = subst (λ (q : Place). IsTrue (is_place (sizes_of met.from.post.machine) q)) a.place met.moved.moves.may.place in
-    frame_inside (sizes_of v.post.machine) f (subst (λ (q : Post). IsTrue (is_place (sizes_of q.machine) (Kind f))) (came_post v met.from met.before) place)
-
--- one that was found with a hand was found
-without_hand : (v w : PortValue) (p : Place) (x : ℕ) (h : Holdings) → FoundWith (Met v w) p x h → FoundAt (Met v w) p x
-without_hand v w p x h a = record { moment = a.moment; was = a.was; place = a.place; word = a.word }
-
 -- so it is a spelling
 with_spelled : (v w : PortValue) (f x : ℕ) (h : Holdings) → FoundWith (Met v w) (Kind f) x h → IsSpelledKind x
 with_spelled v w f x h a =
-    let is = kind_found v.post.machine v.post.vcpu h f x (found_inside v w f x (without_hand v w (Kind f) x h a)) (found_finds v w (Kind f) x h a) in
+    let met = a.was in
+    let place = subst (λ (q : Place). IsTrue (is_place (sizes_of met.from.post.machine) q)) a.place met.moved.moves.may.place in
+    let inside = frame_inside (sizes_of v.post.machine) f (subst (λ (q : Post). IsTrue (is_place (sizes_of q.machine) (Kind f))) (came_post v met.from met.before) place) in
+    let is = kind_found v.post.machine v.post.vcpu h f x inside (found_finds v w (Kind f) x h a) in
     (is.kind, is.read)
 
 at_spelled : (v w : PortValue) (f x : ℕ) → FoundAt (Met v w) (Kind f) x → IsSpelledKind x

@@ -11,7 +11,7 @@ use Rattle.xp_board.specs.Lists.{times_by}
 use Rattle.xp_board.specs.Recorded.{hands}
 use Rattle.xp_board.specs.Sound.{hand_of}
 use Rattle.xp_board.specs.Told.{PortValue, Story, is_telling, told_word, word_in}
-use Rattle.xp_board.proofs.Sums.{sum_below-none}
+use Rattle.xp_board.proofs.Sums.{sum_below-none, no_bit}
 use Rattle.answer_laws.proofs.Shared.{alone_telling}
 use Rattle.shown_words.specs.Shown.{IsSettledRef, NoneDies, StandsAlone}
 
@@ -19,10 +19,6 @@ use Rattle.shown_words.specs.Shown.{IsSettledRef, NoneDies, StandsAlone}
 none_held : (f : ℕ) (h : Holdings) → h.ending ≡ [] → h.claimed ≡ [] → endings_of f h.ending + claims_of f h.claimed ≡ 0
 unfolding times_by
 none_held f h ended claimed = rw ended (rw claimed refl)
-
-unset : (b : Bool) → bit b ≡ 0 → b ≡ false
-unset false e = refl
-unset true e = absurd (omega (arith, e))
 
 module _ (v : PortValue) (s : StandsAlone v) where
   nobody : (f t : ℕ) → t < (sizes_of v.post.machine).vcpus → endings_of f (hand_of s.alone.story.hands t).ending + claims_of f (hand_of s.alone.story.hands t).claimed ≡ 0
@@ -40,7 +36,7 @@ module _ (v : PortValue) (s : StandsAlone v) where
   pub stands_none : NoneDies (told_word v)
   stands_none f =
       subst (λ (o : Option Story). IsSettledRef (word_in v.post.machine o (Refs f))) (sym s.alone.telling)
-      (record { small = s.alone.state.sound.spelled.small (Refs f); owned = unset _ (sym (s.alone.state.sound.alone.dying f) ∙ none_ends f) })
+      (record { small = s.alone.state.sound.spelled.small (Refs f); owned = no_bit _ (sym (s.alone.state.sound.alone.dying f) ∙ none_ends f) })
 
   pub stands_machine : IsMachine v.post.machine
   stands_machine = s.alone.state.sound.machine

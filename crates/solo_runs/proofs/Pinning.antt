@@ -49,6 +49,7 @@ use Rattle.mmuext_ops.specs.declared.element.Element.{Element}
 use Rattle.mmuext_ops.specs.declared.element.Element.TheVariants.{Pin}
 use Rattle.tlb_walks.specs.Dropping.{Acks, Heeds}
 use Rattle.tlb_walks.proofs.Flushes.{acks_came}
+use Rattle.turn_measures.proofs.Beginning.{begins_leaves}
 use Rattle.vcpu_turn.specs.Cpus.{OfExt, Processing, begun, end_of, next_of, nothing_left, reply_of}
 use Rattle.vcpu_turn.specs.Ext.{ExtFits, Performs}
 use Rattle.vcpu_turn.specs.Lists as lists
@@ -97,31 +98,6 @@ rest_by n m x same rest =
       counted = λ g inside. subst (λ w. (kind_fields w).validated ≡ true → 0 < (kind_fields w).number) (sym (same.kinds g)) (rest.counted g inside);
       room = λ g inside. subst (λ w. ref_count w ≤ n.limit) (sym (same.refs g)) (rest.room g inside);
     }
-
--- ---- a turn begins: by these steps only the clock and the own word of flushes may change
-flush_leaves : (v w : PortValue) (answer : Result (Unit {0}) Refusal) → FlushesOwn v w answer → is_telling v ≡ true → (q : Place) → q ≢ Clock → q ≢ flushed_of v.post.vcpu → told_word w q ≡ told_word v q
-flush_leaves v w _ (flushes.spent m) telling q off away = load_tells v w _ _ _ _ m telling q
-flush_leaves v w _ (flushes.ticked a b clock before less first second third) telling q off away =
-    told_elsewhere b w _ _ _ _ _ third q away ∙ told_elsewhere a b _ _ _ _ _ second q off ∙ load_tells v a _ _ _ _ first telling q
-flush_leaves v w _ (flushes.overtaken a b clock found before less other first second third) telling q off away =
-    told_elsewhere b w _ _ _ _ _ third q away ∙ told_elsewhere a b _ _ _ _ _ second q off ∙ load_tells v a _ _ _ _ first telling q
-
-heed_leaves : (past : Bool) (v w : PortValue) → Heeds past v w → is_telling v ≡ true → (q : Place) → q ≢ Clock → q ≢ flushed_of v.post.vcpu → told_word w q ≡ told_word v q
-heed_leaves true v w same telling q off away = ap (λ (y : PortValue). told_word y q) same
-heed_leaves false v w flush telling q off away = flush_leaves v w flush.0 flush.1 telling q off away
-
-ack_leaves : (v w : PortValue) → Acks v w → is_telling v ≡ true → (q : Place) → q ≢ Clock → q ≢ flushed_of v.post.vcpu → told_word w q ≡ told_word v q
-ack_leaves v w k telling q off away =
-    let first = moves_telling v k.a _ _ _ _ _ k.marked ∙ telling in
-    let second = moves_telling k.a k.b _ _ _ _ _ k.looked ∙ first in
-    let post : k.b.post ≡ v.post = came_post k.a k.b (moves_came k.a k.b _ _ _ _ _ k.looked) ∙ came_post v k.a (moves_came v k.a _ _ _ _ _ k.marked) in
-    heed_leaves (nat_lt k.asked k.flushed) k.b w k.heeds second q off (λ e. away (e ∙ ap (λ (p : Post). flushed_of p.vcpu) post))
-    ∙ load_tells k.a k.b _ _ _ _ k.looked first q ∙ load_tells v k.a _ _ _ _ k.marked telling q
-
-begins_leaves : (v w : PortValue) (d run life : ℕ) → Begins v w d run life → is_telling v ≡ true → (q : Place) → q ≢ Clock → q ≢ flushed_of v.post.vcpu → told_word w q ≡ told_word v q
-begins_leaves v w d run life b telling q off away =
-    let first = came_telling v b.acked (acks_came v b.acked b.acks) ∙ telling in
-    load_tells b.looked w _ _ _ _ b.lives (moves_telling b.acked b.looked _ _ _ _ _ b.running ∙ first) q ∙ load_tells b.acked b.looked _ _ _ _ b.running first q ∙ ack_leaves v b.acked b.acks telling q off away
 
 -- the life word is found as it was
 begins_finds : (v w : PortValue) (d run life : ℕ) → Begins v w d run life → is_telling v ≡ true → life ≡ told_word v (Life d)

@@ -16,6 +16,7 @@ pub mod Heeding
 pub mod Stamps
 pub mod Forward
 pub mod Asides
+pub mod Beginning
 pub mod Calm
 pub mod Storing
 pub mod Paging
