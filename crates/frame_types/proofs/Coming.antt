@@ -1,10 +1,5 @@
 -- A frame comes into the own works, or is counted: the hand after the exchange.
-use Rattle.std.proofs.Common.{◌≡◌, ◌⊎◌, ℕ, ◌<◌, ◌≤◌, ◌==◌, ◌||◌, not, if◌then◌else◌, Bool, true, false, List, [], ◌∷◌, length, Some, None, IsTrue, refl, sym, ap, ◌∙◌, subst, arith, inl, inr, Option}
-use Rattle.xp_board.specs.declared.step.Act.{Act}
-use Rattle.step_maker.proofs.Coming.{came_post, moves_came}
-use Rattle.xp_board.specs.declared.step.StepKind.{StepKind}
-use Rattle.xp_board.specs.declared.step.Mark.{Mark}
-use Rattle.xp_words.specs.declared.place.Place.{Place}
+use Rattle.std.proofs.Common.{◌≡◌, ◌⊎◌, ℕ, ◌<◌, ◌≤◌, ◌==◌, ◌||◌, not, if◌then◌else◌, Bool, true, false, List, [], ◌∷◌, length, Some, None, IsTrue, refl, sym, ap, ◌∙◌, subst, arith, inl, inr}
 use Rattle.xp_words.specs.Machine.{IsMachine}
 use Rattle.xp_words.specs.declared.kind.KindWord.{KindWord}
 use Rattle.xp_words.specs.declared.kind.PageType.{PageType}
@@ -269,7 +264,6 @@ entered_may {b} {v} {w} {f} {owner} {want} {word} {marked} {stamp} {progress} {o
       no_walk = ap (λ (q : PortValue). q.holdings.walk) e.hand ∙ still.1 ∙ sym (ap (λ (q : PortValue). q.holdings.walk) l.same) ∙ may.no_walk;
       machine = subst (λ (p : Post). IsMachine p.machine) (ap (λ (q : PortValue). q.post) l.same ∙ sym (ap (λ (q : PortValue). q.post) e.hand)) may.machine;
     }
-
 
 -- ---- a word with one type count more
 pub raised_spelled : (v : PortValue) (k : KindWord) (want : PageType) → MayWork v → IsTrue (is_kind k) → IsCounted k want → k.number < v.post.machine.limit → IsTrue (is_kind (raised_kind k))

@@ -131,7 +131,7 @@ module _ (fs : List ℕ) (empty : ℕ → Plain → Plain) (g : ℕ) (t : PageTy
       let bare : keeps_mark k ≡ keeps_mark l = spent_bare k spent ∙ sym (spent_bare l spent_too) in
       let emptied = like_closed fs _ _ (keeps_mark k) g t (keeps (entries_held k) _ _ (like_kind fs p q like g (emptying k) (emptying l) (inr (one, emptying_spent k, emptying_spent l)))) in
       rw off (rw off_too (subst (λ u. IsLike fs (closed_as (keeps_mark k) g t (empty (entries_held k) (with_kind g (emptying k) p))) (closed_as u g t (empty (entries_held l) (with_kind g (emptying l) q)))) bare
-          (subst (λ j. IsLike fs (closed_as (keeps_mark k) g t (empty (entries_held k) (with_kind g (emptying k) p))) (closed_as (keeps_mark k) g t (empty j (with_kind g (emptying l) q)))) held emptied)))
+      (subst (λ j. IsLike fs (closed_as (keeps_mark k) g t (empty (entries_held k) (with_kind g (emptying k) p))) (closed_as (keeps_mark k) g t (empty j (with_kind g (emptying l) q)))) held emptied)))
 
   pub dropped_kind : (p q : Plain) (k l : KindWord) → IsEither fs g k l → IsLike fs p q → IsLike fs (drop_kind empty g t p k) (drop_kind empty g t q l)
   dropped_kind p q k l (inl same) like = subst (λ j. IsLike fs (drop_kind empty g t p k) (drop_kind empty g t q j)) same (dropped_same (is_counted_on k) p q k refl like)

@@ -1,11 +1,9 @@
 -- What a turn that begins finds of lives, and what a call that destroys no domain leaves of them.
-use Rattle.std.proofs.Common.{◌≡◌, ◌≢◌, ℕ, ◌<◌, IsTrue, Bool, true, false, List, [], ◌∷◌, None, Result, refl, sym, ap, ◌∙◌, subst, nat_lt, arith}
+use Rattle.std.proofs.Common.{◌≡◌, ℕ, ◌<◌, IsTrue, Bool, true, false, List, [], ◌∷◌, None, refl, sym, ap, ◌∙◌, subst, arith}
 use Rattle.std.proofs.lemmas.Bool.Decides.{nat_tests}
 use Rattle.xp_words.specs.Machine.{Machine}
-use Rattle.xp_words.specs.Places.{flushed_of, is_place, sizes_of}
-use Rattle.xp_words.specs.declared.place.Place.{Place}
-use Rattle.xp_words.specs.declared.place.Place.TheVariants.{Clock, Life}
-use Rattle.xp_words.specs.declared.reply.Refusal.{Refusal}
+use Rattle.xp_words.specs.Places.{is_place, sizes_of}
+use Rattle.xp_words.specs.declared.place.Place.TheVariants.{Life}
 use Rattle.xp_board.specs.declared.holdings.Holdings.{Holdings}
 use Rattle.xp_board.specs.declared.step.Act.{Act}
 use Rattle.xp_board.specs.declared.step.Act.TheVariants.{Load, Cas, Store, Add, Max}
@@ -16,14 +14,12 @@ use Rattle.xp_board.specs.Told.{Post, PortValue, is_telling, told_word}
 use Rattle.xp_board.proofs.PlaceTests.{same_place}
 use Rattle.step_maker.specs.Moves.{Met, Moment, MovesBy, Ran}
 use Rattle.step_maker.proofs.Coming.{came_post, came_trans, moves_came}
-use Rattle.step_maker.proofs.Telling.{came_telling, leaves, load_tells, moves_telling, ran_telling, told_elsewhere, told_here}
+use Rattle.step_maker.proofs.Telling.{came_telling, leaves, ran_telling, told_here}
 use Rattle.step_maker.specs.Answers.{Deed, Serves}
 use Rattle.step_maker.specs.Asked.{Request}
 use Rattle.step_maker.specs.Finding.{Finding}
 use Rattle.step_maker.specs.Reasons.{HasReason}
-use Rattle.flush_words.specs.Flushing.{FlushesOwn}
 use Rattle.flush_words.specs.Flushing as flushes
-use Rattle.tlb_walks.specs.Dropping.{Acks, Heeds}
 use Rattle.tlb_walks.proofs.Flushes.{acks_came}
 use Rattle.frame_ranks.specs.Ranks.{AreAllAlive}
 use Rattle.vcpu_turn.specs.Turning.{Begins}

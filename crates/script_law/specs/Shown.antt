@@ -1,5 +1,5 @@
 -- Words of a machine, and the plain values of them.
-use Rattle.std.specs.Prelude.{◌≡◌, ◌≢◌, ◌⊎◌, ℕ, ◌<◌, length}
+use Rattle.std.specs.Prelude.{◌≡◌, ℕ, ◌<◌, length}
 use Rattle.xp_words.specs.Machine.{Machine}
 use Rattle.xp_words.specs.declared.place.Place.TheVariants.{Life, M2p, Pages, Priv, Refs, Vcpu}
 use Rattle.xp_board.specs.Readings.{is_free}

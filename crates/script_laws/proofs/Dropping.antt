@@ -27,7 +27,6 @@ use Rattle.step_maker.specs.Twins.{Alike, IsAlike}
 use Rattle.step_maker.specs.Visits.{Does, Nothing, Only, Then, Visit, Where, visit}
 use Rattle.step_maker.proofs.Alikes.{alike_same, alike_trans, same_alike}
 use Rattle.step_maker.proofs.Coming.{came_post, came_self, came_trans, met_after, met_before}
-use Rattle.step_maker.proofs.Piecing.{serves_came}
 use Rattle.step_maker.proofs.Telling.{load_leaves, load_tells, moves_telling}
 use Rattle.answer_laws.proofs.Shared.{alone_telling}
 use Rattle.course_laws.proofs.Awaiting.{AloneStays, NeitherLostNorBusy, NobodyWaitedFor, clock_by}

@@ -120,9 +120,9 @@ module _ (l : Laws) (neither : NeitherLostNorBusy) (kept_on : KeptOn) (pair : Pa
       let post = came_post v0 v ahead.came in
       let o = owners_of l.stays neither v0 foreign in
       let alive = tables_alive v0.post.machine s (whose v0).domain real ahead.good.0 foreign ahead.good.1 in (
-      subst (λ (q : Post). Comes (KeepsWrite o (pairs.element_of p)) w s (updated (record { machine = q.machine; domain = domain_of q.machine q.vcpu }) o (pairs.element_of p) s) answer) post
-      (pair v w s o (pairs.element_of p) answers answer (subst (λ (q : Post). o.tables < length q.machine.page_limit) (sym post) alive.real) alive.lives start (fair_on v0 v w ahead.came fair).fair fits),
-      known_by (pair_alone (own l.stays neither v0) o p s) answer (λ x is. shown.words v w o (pairs.element_of p) answers x (stands_alone v s (either_stands foreign p v s start)) (subst (Updates o (pairs.element_of p) v w answers) is fits)),
+        subst (λ (q : Post). Comes (KeepsWrite o (pairs.element_of p)) w s (updated (record { machine = q.machine; domain = domain_of q.machine q.vcpu }) o (pairs.element_of p) s) answer) post
+            (pair v w s o (pairs.element_of p) answers answer (subst (λ (q : Post). o.tables < length q.machine.page_limit) (sym post) alive.real) alive.lives start (fair_on v0 v w ahead.came fair).fair fits),
+        known_by (pair_alone (own l.stays neither v0) o p s) answer (λ x is. shown.words v w o (pairs.element_of p) answers x (stands_alone v s (either_stands foreign p v s start)) (subst (Updates o (pairs.element_of p) v w answers) is fits)),
       )
 
   -- ---- an update by address
@@ -172,10 +172,10 @@ module _ (l : Laws) (neither : NeitherLostNorBusy) (kept_on : KeptOn) (pair : Pa
           let to_u = came_post v u on.came ∙ post in
           let there = clean_on l.stays v u s on clean in
           let comes = unpaused_comes (λ u t. ⊥) w s (allowed (walk_refusal va) s (update_entry u.post.machine a va word s (table_at u.post.machine va s (s.own 0)))) answer (at u w s a va word answers answer there goes updates) in (
-          subst (λ r. Comes (λ u t. ⊥) w s (plain_at v0.post.machine o s r) answer) (sym (named_is s false near (at_v0 None had.0) fine))
-          (subst (λ b. Comes (λ u t. ⊥) w s (plain_at v0.post.machine b s (walk_refusal va)) answer) had.1
-          (subst (λ (q : Post). Comes (λ u t. ⊥) w s (plain_at q.machine a s (walk_refusal va)) answer) to_u comes)),
-          known_by (map_word (own l.stays neither v0) foreign va word flags s) answer (λ x is. shown.mapped u w a va word answers x (stands_alone u s there.stands) (subst (UpdatesAt a va word u w answers) is updates)),
+            subst (λ r. Comes (λ u t. ⊥) w s (plain_at v0.post.machine o s r) answer) (sym (named_is s false near (at_v0 None had.0) fine))
+                (subst (λ b. Comes (λ u t. ⊥) w s (plain_at v0.post.machine b s (walk_refusal va)) answer) had.1
+                (subst (λ (q : Post). Comes (λ u t. ⊥) w s (plain_at q.machine a s (walk_refusal va)) answer) to_u comes)),
+            known_by (map_word (own l.stays neither v0) foreign va word flags s) answer (λ x is. shown.mapped u w a va word answers x (stands_alone u s there.stands) (subst (UpdatesAt a va word u w answers) is updates)),
           )
 
     map_law : LawOf l.stays neither v0 (Lives l.stays neither v0) (λ v w asked r. UpdatesWord (whose v0).domain foreign va word flags v w asked r) (λ u t. ⊥) (map_word (own l.stays neither v0) foreign va word flags)

@@ -151,8 +151,8 @@ module _ (l : Laws) (neither : NeitherLostNorBusy) (v0 : PortValue) where
   pub ext_law : (shown : ShownLaws) (e : ExtOp) (awaited : Option ℕ) → LawOf l.stays neither v0 (Lives l.stays neither v0) (λ v w asked r. Performs (whose v0).domain (ext_element e) awaited v w asked r) (KeepsExt e) (ext_alone (own l.stays neither v0) e)
   ext_law shown e awaited v w s answers r ahead start settled rests fair p =
       let post = came_post v0 v ahead.came in (
-      subst (λ (q : Post). Comes (KeepsPin (ext_element e)) w s (performed (record { machine = q.machine; domain = domain_of q.machine q.vcpu }) (ext_element e) s) r) post
-      (by_kind (ext_element e) (kind_of e) awaited v w s answers r (subst (λ (q : Post). s.lives (domain_of q.machine q.vcpu) ≡ 0) (sym post) ahead.good) start settled (fair_on v0 v w ahead.came fair).fair
-      (subst (λ (q : Post). Performs (domain_of q.machine q.vcpu) (ext_element e) awaited v w answers r) (sym post) p)),
-      known_by (ext_alone (own l.stays neither v0) e s) r (λ x is. shown.elements v w (whose v0).domain (ext_element e) awaited answers x (stands_alone v s (either_stands e v s start)) (subst (Performs (whose v0).domain (ext_element e) awaited v w answers) is p)),
+        subst (λ (q : Post). Comes (KeepsPin (ext_element e)) w s (performed (record { machine = q.machine; domain = domain_of q.machine q.vcpu }) (ext_element e) s) r) post
+            (by_kind (ext_element e) (kind_of e) awaited v w s answers r (subst (λ (q : Post). s.lives (domain_of q.machine q.vcpu) ≡ 0) (sym post) ahead.good) start settled (fair_on v0 v w ahead.came fair).fair
+            (subst (λ (q : Post). Performs (domain_of q.machine q.vcpu) (ext_element e) awaited v w answers r) (sym post) p)),
+        known_by (ext_alone (own l.stays neither v0) e s) r (λ x is. shown.elements v w (whose v0).domain (ext_element e) awaited answers x (stands_alone v s (either_stands e v s start)) (subst (Performs (whose v0).domain (ext_element e) awaited v w answers) is p)),
       )

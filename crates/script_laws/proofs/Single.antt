@@ -135,8 +135,7 @@ module _ (stays : AloneStays) (neither : NeitherLostNorBusy) (v0 : PortValue) (o
         Begins stays neither v0 made v b (λ s. single (descriptors_alone stays neither v0 t s)) → Comes stays neither v0 (λ to made w. Begins stays neither v0 made w b (λ s. single (descriptors_alone stays neither v0 t s))) op to made w b (valued r)
     descriptors_work t to made v w b answers r does fair rests settled g =
         let s = g.value in
-        one_so (descriptors_alone stays neither v0 t) to made v w s b r g.nothing does.done g.owes (descriptors_came t v w r does.does) (keeps_by t s) g.is
-        (
+        one_so (descriptors_alone stays neither v0 t) to made v w s b r g.nothing does.done g.owes (descriptors_came t v w r does.does) (keeps_by t s) g.is (
           descriptors_come t v w s r (post_at v s g.owes) (owes_clean v s rests settled g.owes.owes) (fair_on v0 v w g.owes.ahead.came fair).fair does.does,
           known_by (descriptors_alone stays neither v0 t s) r (λ x is. shown.descriptors v w t x (stands_alone v s (owes_clean v s rests settled g.owes.owes).stands) (subst (DescriptorFits t v w) is does.does)),
         )

@@ -1,5 +1,5 @@
 -- What a guest sees of a destruction sets no machine-to-physical word, and no word of the own vCPU; so all but the frames and one life word stays.
-use Rattle.std.proofs.Common.{◌≡◌, ◌≢◌, ℕ, ◌==◌, if◌then◌else◌, All, Bool, true, false, List, [], ◌∷◌, ◌++◌, Result, Ok, Err, refl, sym, ap, ◌∙◌, subst, inl, inr, arith}
+use Rattle.std.proofs.Common.{◌≡◌, ◌≢◌, ℕ, ◌==◌, if◌then◌else◌, All, Bool, true, false, List, [], ◌∷◌, ◌++◌, Result, Ok, Err, refl, sym, ap, ◌∙◌, arith}
 use Rattle.std.proofs.lemmas.Bool.Decides.{nat_tests}
 use Rattle.std.proofs.lemmas.List.Elements.{All-head, All-tail}
 use Rattle.xp_words.specs.Machine.{Machine}
@@ -32,7 +32,6 @@ abbrev Off : ℕ → Deed → Type 0
 Off s (SetsM2p f w) = ⊥
 Off s (SetsWord v k w) = v ≢ s
 Off s _ = Unit {0}
-
 
 missed_place : (s : ℕ) (p : Place) → EachOf (Off s) (missed_at p)
 unfolding EachOf

@@ -20,7 +20,7 @@ use Rattle.step_maker.specs.Asked.{Request}
 use Rattle.step_maker.specs.Holds.{Rests}
 use Rattle.step_maker.specs.Moves.{Came}
 use Rattle.step_maker.specs.Twins.{Alike}
-use Rattle.step_maker.proofs.Alikes.{alike_trans, same_alike}
+use Rattle.step_maker.proofs.Alikes.{alike_trans}
 use Rattle.step_maker.proofs.Coming.{came_post, came_trans, met_after, met_before, same_machine}
 use Rattle.answer_laws.specs.Alone.{IsAlone}
 use Rattle.answer_laws.proofs.Shared.{alone_telling}
@@ -42,7 +42,7 @@ use Rattle.table_law.proofs.OnWords.{counts_plain}
 use Rattle.course_laws.specs.Courses.{FindsAlive}
 use Rattle.course_laws.proofs.Lending.{Lent, lent}
 use Rattle.refusal_laws.specs.Repeated as repeated
-use Rattle.refusal_laws.specs.Repeated.{FollowsOn, IsKeptTable, PausedCalls}
+use Rattle.refusal_laws.specs.Repeated.{IsKeptTable, PausedCalls}
 use Rattle.refusal_laws.proofs.Repeating.{all_told}
 use Rattle.script_law.specs.Frames.{exchange_at, under_lock, write_by, write_entry, write_memory, write_word}
 use Rattle.script_law.specs.Values.{Numbers, Solo, behind, behind_by, did, looked_by, stopped, with_frames}

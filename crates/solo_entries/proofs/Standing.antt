@@ -1,5 +1,5 @@
 -- Small facts of ports that stand to a plain value.
-use Rattle.std.proofs.Common.{◌≡◌, ◌==◌, ℕ, Bool, true, false, if◌then◌else◌, refl, sym, ap, ◌∙◌, List, subst}
+use Rattle.std.proofs.Common.{◌≡◌, ◌==◌, ℕ, Bool, true, false, if◌then◌else◌, refl, sym, ◌∙◌, List, subst}
 use Rattle.xp_words.specs.declared.place.Place.{Place}
 use Rattle.xp_words.specs.declared.place.Place.TheVariants.{Cell, Kind, Life, M2p, Priv, Vcpu, Refs, Map, Pages, Clock}
 use Rattle.xp_board.specs.Readings.{owner_of, ref_count}

@@ -1,12 +1,12 @@
 -- An acquisition that begins where nothing is left, or goes on where the gate paused it: what its next call comes to, and what is kept where that is paused.
-use Rattle.std.proofs.Common.{◌≡◌, ◌⊎◌, ℕ, ◌<◌, ◌≤◌, true, Bool, None, List, length, Result, Err, refl, sym, ap, ◌∙◌, subst}
+use Rattle.std.proofs.Common.{◌≡◌, ◌⊎◌, ℕ, ◌<◌, ◌≤◌, Bool, None, List, length, Result, Err, refl, sym, ap, ◌∙◌, subst}
 use Rattle.std.proofs.lemmas.List.Elements.{All-get_or}
 use Rattle.xp_words.specs.Machine.{IsMachine, Machine}
 use Rattle.xp_words.specs.declared.reply.Pause.TheVariants.{Due}
 use Rattle.xp_words.specs.declared.reply.Stop.{Stop}
 use Rattle.xp_words.specs.declared.reply.Stop.TheVariants.{Paused}
 use Rattle.xp_board.specs.Readings.{ref_count}
-use Rattle.xp_board.specs.Told.{Post, PortValue, is_telling, told_word}
+use Rattle.xp_board.specs.Told.{Post, PortValue, told_word}
 use Rattle.step_maker.specs.Answers.{Deed, Serves}
 use Rattle.step_maker.specs.Asked.{Request}
 use Rattle.step_maker.specs.Moves.{Came}
@@ -27,7 +27,7 @@ use Rattle.course_laws.proofs.Awaiting.{AloneStays}
 use Rattle.course_laws.proofs.Stopping.{acquired_came}
 use Rattle.pause_laws.specs.Calls.{HasRoom}
 use Rattle.refusal_laws.specs.Refusals.{ComesTo}
-use Rattle.refusal_laws.specs.Repeated.{FollowsOn, PausedCalls, again, first}
+use Rattle.refusal_laws.specs.Repeated.{PausedCalls, again, first}
 use Rattle.script_law.specs.Values.{Solo}
 use Rattle.solo_ports.specs.Standing.{Clean, Fair, KeepsTable, Stands, whose}
 use Rattle.solo_ports.proofs.Along.{paused_on, follows_itself}
@@ -56,7 +56,6 @@ pub record Begins (v w : PortValue) (x : Solo) (d f level : ℕ) : Type 0 where
   pub comes : (c e : PortValue) (answers : List Bool) (answer : Result ℕ Stop) → Came v c → told_word c ≡ told_word v → Came e w → Acquired c f d level e answers answer →
       (answer ≡ Err (Paused Due)) ⊎ ComesTo v.post.machine e f level (alone v.post.machine d level f x.frames) answer
   pub keeps : (c : PortValue) (answers : List Bool) → Came v c → told_word c ≡ told_word v → Acquired c f d level w answers (Err (Paused Due)) → FindsAlive c w d → Stands w x → told_word w (old_place w.post.vcpu First) ≡ 0 → KeepsTable f d level w x
-
 
 module _ (stays : AloneStays) (v w : PortValue) (x : Solo) (d f level : ℕ) (fair : Fair v w) (low : 1 ≤ level) (high : level ≤ 4) where
   abbrev n : Machine

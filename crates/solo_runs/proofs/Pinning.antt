@@ -1,5 +1,5 @@
 -- A turn whose operation is one pin: what is before the pin's own steps changes no word of a frame, so the pin is decided by the words with which the turn began.
-use Rattle.std.proofs.Common.{◌≡◌, ◌≢◌, ℕ, ◌+◌, ◌<◌, ◌≤◌, nat_lt, Bool, true, false, List, [], ◌∷◌, ◌++◌, Option, Some, None, Result, Ok, Err, refl, sym, ap, ◌∙◌, subst, inl, inr, length, arith}
+use Rattle.std.proofs.Common.{◌≡◌, ◌≢◌, ℕ, ◌+◌, ◌<◌, ◌≤◌, Bool, true, false, List, [], ◌∷◌, ◌++◌, Option, Some, None, Result, Ok, Err, refl, sym, ap, ◌∙◌, subst, inl, inr, length, arith}
 use Rattle.std.specs.Prelude.{◌↔◌}
 use Rattle.xp_words.specs.KindWords.{kind_fields}
 use Rattle.xp_words.specs.Machine.{Machine}
@@ -27,10 +27,9 @@ use Rattle.xp_preempt.proofs.Consulting.{yeses_then}
 use Rattle.step_maker.specs.Moves.{Came, Moves}
 use Rattle.step_maker.specs.Plain.{Words}
 use Rattle.step_maker.proofs.Coming.{came_post, came_trans, met_after, met_before, moves_came}
-use Rattle.step_maker.proofs.Telling.{came_telling, load_tells, moves_telling, told_elsewhere, told_here, told_there}
+use Rattle.step_maker.proofs.Telling.{came_telling, load_tells, told_here, told_there}
 use Rattle.answer_laws.specs.Alone.{IsAlone}
 use Rattle.answer_laws.proofs.Shared.{alone_telling}
-use Rattle.flush_words.specs.Flushing.{FlushesOwn}
 use Rattle.flush_words.specs.Flushing as flushes
 use Rattle.partial_state.specs.Levels.{level_type}
 use Rattle.table_words.specs.OldWords.{old_place}
@@ -47,7 +46,6 @@ use Rattle.mmuext_ops.specs.Course.{IsPinnedAs, Performed, Pinned}
 use Rattle.mmuext_ops.specs.Elements.{ext_element}
 use Rattle.mmuext_ops.specs.declared.element.Element.{Element}
 use Rattle.mmuext_ops.specs.declared.element.Element.TheVariants.{Pin}
-use Rattle.tlb_walks.specs.Dropping.{Acks, Heeds}
 use Rattle.tlb_walks.proofs.Flushes.{acks_came}
 use Rattle.turn_measures.proofs.Beginning.{begins_leaves}
 use Rattle.vcpu_turn.specs.Cpus.{OfExt, Processing, begun, end_of, next_of, nothing_left, reply_of}
@@ -57,7 +55,7 @@ use Rattle.vcpu_turn.specs.Lists.{DidItems, Fitting, WorksOn, WorksThrough}
 use Rattle.vcpu_turn.specs.Settling as settling
 use Rattle.vcpu_turn.specs.Settling.{Settles, SettlesFirst}
 use Rattle.vcpu_turn.specs.Turning as turning
-use Rattle.vcpu_turn.specs.Turning.{Begins, DoesNext, DoesTurn, EndsTurn, GoesBy, IsTurn}
+use Rattle.vcpu_turn.specs.Turning.{Begins, DoesNext, DoesTurn, GoesBy, IsTurn}
 use Rattle.vcpu_turn.specs.Working.{WentOn, Works, valued}
 use Rattle.vcpu_turn.specs.declared.cpu.CallNumber.{CallNumber}
 use Rattle.vcpu_turn.specs.declared.cpu.Progress.{Progress}

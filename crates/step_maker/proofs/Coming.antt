@@ -6,7 +6,6 @@ use Rattle.xp_board.specs.declared.step.Mark.{Mark}
 use Rattle.xp_board.specs.declared.step.StepKind.{StepKind}
 use Rattle.xp_board.specs.Told.{PortValue, Post}
 use Rattle.step_maker.specs.Moves.{Moves, Moment, MovesBy, Ran, Came, Met}
-use Rattle.xp_words.specs.Machine.{Machine}
 
 pub ran_more : (v u w : PortValue) (xs ys : List Moment) → Ran v xs u → Ran u ys w → Ran v (ys ++ xs) w
 ran_more v u w xs [] a b = subst (Ran v xs) (sym b) a

@@ -4,12 +4,10 @@ use Rattle.xp_words.specs.declared.kind.PageType.{PageType}
 use Rattle.xp_board.specs.Told.{PortValue, is_telling, told_word}
 use Rattle.xp_words.specs.Machine.{IsMachine}
 use Rattle.step_maker.specs.Holds.{MayWork, Same, still, FlushedHolds, Holds, quiet}
-use Rattle.xp_board.specs.declared.holdings.Holdings.{Holdings}
-use Rattle.xp_board.specs.declared.holdings.Work.{Work}
 use Rattle.xp_board.specs.Hands.{refs_to, typed_to, work_on}
 use Rattle.xp_board.specs.RefSteps.{SparesClosing}
 use Rattle.frame_words.specs.Refs.{Gets, IsRefStop, MayPut, took}
-use Rattle.frame_types.specs.Taking.{WaitsWith, working, CountsAs, IsNotLive, IsOfOther, Looked, ShowsWait, Takes, TakesAs}
+use Rattle.frame_types.specs.Taking.{WaitsWith, CountsAs, IsNotLive, IsOfOther, Looked, ShowsWait, Takes, TakesAs}
 use Rattle.xp_words.specs.Entries.{demand_at}
 use Rattle.xp_words.specs.PageTypes.{is_none}
 use Rattle.xp_words.specs.Places.{sizes_of}
@@ -74,7 +72,6 @@ same_puts x v y g one two lt may gives =
         record { held = subst (λ (q : PortValue). 0 < refs_to g q.holdings.refs) e gives.held; spares = subst (λ (q : PortValue). SparesClosing g q.holdings) e gives.spares },
       ),
     )
-
 
 pub waits_may : {x v y : PortValue} {g owner : ℕ} {want : PageType} {own : Bool} {stamp : ℕ} → Same x v → WaitsWith x y g owner want own stamp → MayWork v → MayWork y
 waits_may {x} {v} {y} {g} {owner} {want} {own} one w may =

@@ -24,7 +24,6 @@ pub record IsCalm (v : PortValue) : Type 0 where
 pub alive_still : (n : Machine) (m x : Words) → Still m x → AreAllAlive n m → AreAllAlive n x
 alive_still n m x s alive d real = s (Life d) refl ∙ alive d real
 
-
 pub alive_on : (v w : PortValue) → Passes v w → AreAllAlive v.post.machine (told_word v) → AreAllAlive w.post.machine (told_word w)
 alive_on v w p alive = subst (λ (n : Machine). AreAllAlive n (told_word w)) (sym (same_machine v w p.came)) (alive_still v.post.machine (told_word v) (told_word w) p.still alive)
 

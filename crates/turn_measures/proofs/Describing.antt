@@ -11,7 +11,7 @@ use Rattle.xp_board.proofs.KindForms.{frame_inside}
 use Rattle.step_maker.proofs.Telling.{came_telling}
 use Rattle.answer_laws.specs.Alone.{IsAlone}
 use Rattle.desc_pages.specs.Descriptors as descriptors
-use Rattle.desc_pages.specs.Descriptors.{DescriptorUpdated, SawKind, StoredUnder, TookAs, UpdatesDescriptor}
+use Rattle.desc_pages.specs.Descriptors.{DescriptorUpdated, StoredUnder, TookAs, UpdatesDescriptor}
 use Rattle.desc_pages.specs.Gdt.{GdtSet, SetsGdt}
 use Rattle.desc_pages.specs.Pages.{GotDesc, IsDescStop, TookDesc}
 use Rattle.ldt_pages.specs.Touching as touching

@@ -15,7 +15,7 @@ use Rattle.step_maker.specs.Twins.{AnswersAs}
 use Rattle.step_maker.proofs.Visiting.{does_came}
 use Rattle.foreign_map.specs.declared.owners.Owners.{Owners}
 use Rattle.entry_exchange.specs.Course as course
-use Rattle.entry_exchange.specs.Course.{Exchanged, LeftLock, PutEntry, TookDemand, new_demand}
+use Rattle.entry_exchange.specs.Course.{Exchanged, PutEntry, TookDemand, new_demand}
 use Rattle.entry_exchange.specs.Holding.{owner_at}
 use Rattle.entry_exchange.specs.declared.exchanging.EntryUpdate.{EntryUpdate}
 use Rattle.entry_locks.specs.Plain.{LocksPlainly}
