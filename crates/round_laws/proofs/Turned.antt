@@ -28,7 +28,8 @@ use Rattle.vcpu_turn.specs.Unhindered.{IsSparedBy, IsSparedIn, IsUnhindered}
 use Rattle.vcpu_turn.proofs.Hindering.{settles_came}
 use Rattle.frame_ranks.specs.Ranks.{AreAllAlive, GetsFurther, GoesForward, rank_at}
 use Rattle.turn_measures.specs.Measures.{DestroysNothing, IsSparingJob, IsWithin, KeepsLeft, StaysAt, ahead, bit_named, olds_named}
-use Rattle.round_laws.proofs.Beginning.{begins_alive, begins_leaves, serves_leaves}
+use Rattle.turn_measures.proofs.Beginning.{begins_leaves}
+use Rattle.round_laws.proofs.Beginning.{begins_alive, serves_leaves}
 use Rattle.round_laws.proofs.Cited.{TurnLaws}
 use Rattle.round_laws.proofs.Lessening.{Less, by_ahead, by_left, by_olds, by_ranks, TurnLeaves, after_retired, next_left, none_kept, kept_as, apart, less_as, goes_or_waits}
 
