@@ -4,8 +4,6 @@
 mod asked;
 mod known;
 mod reading;
-#[cfg(test)]
-mod tests;
 
 pub use asked::{Asked, Manner};
 pub use known::path_of;

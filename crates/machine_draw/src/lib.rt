@@ -12,6 +12,3 @@ mod vcpus;
 mod whole;
 
 pub use whole::draw;
-
-#[cfg(test)]
-mod tests;

@@ -17,6 +17,3 @@ pub use laws::{an_image_has_one_spelling, an_image_reads_back, bytes_without_fau
 pub use numbers::Numbers;
 pub use read::{image_in, read_image};
 pub use write::{Image, write_image};
-
-#[cfg(test)]
-mod tests;

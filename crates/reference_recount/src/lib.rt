@@ -6,6 +6,3 @@ mod marks;
 mod tallies;
 
 pub use tallies::{Tally, recount};
-
-#[cfg(test)]
-mod tests;

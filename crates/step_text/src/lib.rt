@@ -8,6 +8,3 @@ mod told;
 
 pub use lines::steps_text;
 pub use told::ToldStep;
-
-#[cfg(test)]
-mod tests;

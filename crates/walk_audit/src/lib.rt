@@ -18,6 +18,3 @@ mod verdict;
 pub use deciding::audit;
 pub use laws::sound_words_break_nothing;
 pub use verdict::Verdict;
-
-#[cfg(test)]
-mod tests;

@@ -14,7 +14,7 @@ use Rattle.xp_words.specs.declared.place.Place.TheVariants.{Vcpu, Refs, Kind}
 use Rattle.xp_words.proofs.PlaceLaws.{number-lt, memory_same, memory_other}
 use Rattle.xp_board.specs.Spelling.{IsSpelling}
 use Rattle.reference_recount.specs.Recounted.{IsReadable}
-use Rattle.reference_recount.proofs.tests.a_base_names_a_frame_that_is_no_table.Goals as goal
+use Rattle.edge_tests.proofs.recounts.a_base_names_a_frame_that_is_no_table.Goals as goal
 
 -- ---- all of them 0
 zero_there : (z : Sizes) (p : Place) → memory z (replicate (size z) 0) p ≡ 0

@@ -1,25 +1,18 @@
-//! Two domains and one vCPU. A top table leads by two tables to one of level 1, which maps a page writable by two entries and another read-only by one.
-use crate::draw;
-use arrayvec::ArrayVec;
+//! A machine drawn (machine_draw): two domains and one vCPU. A top table leads by two tables to one of level 1, which maps a page writable by two entries and
+//! another read-only by one.
+use crate::machines::{short_list, words_with};
+use machine_draw::draw;
 use std::test::Fail;
 use walk_audit::Verdict;
-use xp_words::{Domains, Layout, Limits, Masks};
+use xp_words::Layout;
 
 fn layout() -> Layout {
-    let mut page_limit = ArrayVec::new();
-    let mut privilege = ArrayVec::new();
-    let mut vcpu_domain = ArrayVec::new();
-    page_limit.push(16);
-    page_limit.push(16);
-    privilege.push(0);
-    privilege.push(0);
-    vcpu_domain.push(0);
     Layout {
         frames: 11,
         limit: 67_108_863,
-        page_limit: Limits::new(page_limit),
-        privilege: Masks::new(privilege),
-        vcpu_domain: Domains::new(vcpu_domain),
+        page_limit: short_list(&[16, 16]),
+        privilege: short_list(&[0, 0]),
+        vcpu_domain: short_list(&[0]),
     }
 }
 
@@ -94,12 +87,7 @@ vcpu0 -> frame0 [label="base"];
 #[test]
 fn a_small_machine_is_drawn(rt: HostRuntime) -> Result<(), Fail> {
     let layout = layout();
-    let mut words = vec![in rt.alloc(); 0; layout.words() as usize]?;
-    for (place, word) in WORDS {
-        if place < words.len() {
-            words[place] = word;
-        }
-    }
+    let words = words_with(&rt, &layout, &WORDS, &[])?;
     let verdict = Verdict::Refs {
         frame: 5,
         want: 2,

@@ -1,51 +1,42 @@
-use crate::{ToldStep, steps_text};
-use arrayvec::ArrayVec;
+//! Texts of steps (step_text), of a machine of two domains, two vCPUs and 70 frames, for which the map of free frames has two words. The words of the vCPUs
+//! begin at 5, those of the frames at 81, the map at 36131, and the privileges at 36133.
+use crate::machines::short_list;
+use std::process::Abort;
 use std::test::Fail;
+use step_text::{ToldStep, steps_text};
 use xp_board::{Act, Mark, Step, StepKind};
-use xp_words::{Domains, Layout, Limits, Masks};
+use xp_words::Layout;
 
-// Two domains, two vCPUs and 70 frames, for which the map of free frames has two words. The words of the vCPUs begin at 5, those of the frames at 81,
-// the map at 36131, and the privileges at 36133.
 fn layout() -> Layout {
-    let mut page_limit = ArrayVec::new();
-    let mut privilege = ArrayVec::new();
-    let mut vcpu_domain = ArrayVec::new();
-    page_limit.push(70);
-    page_limit.push(70);
-    privilege.push(0);
-    privilege.push(0);
-    vcpu_domain.push(0);
-    vcpu_domain.push(1);
     Layout {
         frames: 70,
         limit: 67_108_863,
-        page_limit: Limits::new(page_limit),
-        privilege: Masks::new(privilege),
-        vcpu_domain: Domains::new(vcpu_domain),
+        page_limit: short_list(&[70, 70]),
+        privilege: short_list(&[0, 0]),
+        vcpu_domain: short_list(&[0, 1]),
     }
 }
 
-// The line of one step of vCPU 1 that finds 10.
-fn line_of(
-    rt: &HostRuntime,
-    kind: StepKind,
-    place: u32,
-    act: Act,
-    mark: Option<Mark>,
-) -> Result<String, Fail> {
+// The line of one step of vCPU 1 that finds 10 has these words.
+fn is_told(rt: &(impl Abort + AllocGlobal), step: Step, words: [&str; 4]) -> Result<(), Fail> {
+    let [kind, place, act, mark] = words;
     let told = ToldStep {
         vcpu: 1,
-        step: Step {
-            place,
-            act,
-            kind,
-            mark,
-        },
+        step,
         found: 10,
     };
     let text = steps_text(rt.alloc(), &layout(), &[told])?;
-    Ok(String::from_utf8(text)?)
+    let due = format!(in rt.alloc(); "step 1 {kind} {place} {act} found 0xa{mark}\n")?;
+    assert_eq!(rt; String::from_utf8(text)?, due);
+    Ok(())
 }
+
+const LOOK: Step = Step {
+    place: 0,
+    act: Act::Load,
+    kind: StepKind::Look,
+    mark: None,
+};
 
 #[test]
 fn names_each_kind_of_step(rt: HostRuntime) -> Result<(), Fail> {
@@ -68,9 +59,7 @@ fn names_each_kind_of_step(rt: HostRuntime) -> Result<(), Fail> {
         (StepKind::Touch, "touch"),
         (StepKind::Priv, "priv"),
     ] {
-        let line = line_of(&rt, kind, 0, Act::Load, None)?;
-        let due = format!(in rt.alloc(); "step 1 {name} clock load found 0xa\n")?;
-        assert_eq!(rt; line, due);
+        is_told(&rt, Step { kind, ..LOOK }, [name, "clock", "load", ""])?;
     }
     Ok(())
 }
@@ -102,9 +91,7 @@ fn names_each_word_of_the_machine(rt: HostRuntime) -> Result<(), Fail> {
         (36132, "map 1"),
         (36134, "priv 1"),
     ] {
-        let line = line_of(&rt, StepKind::Look, place, Act::Load, None)?;
-        let due = format!(in rt.alloc(); "step 1 look {name} load found 0xa\n")?;
-        assert_eq!(rt; line, due);
+        is_told(&rt, Step { place, ..LOOK }, ["look", name, "load", ""])?;
     }
     Ok(())
 }
@@ -142,9 +129,7 @@ fn writes_each_act(rt: HostRuntime) -> Result<(), Fail> {
         ),
         (Act::Max { value: 17 }, "max 0x11"),
     ] {
-        let line = line_of(&rt, StepKind::Look, 0, act, None)?;
-        let due = format!(in rt.alloc(); "step 1 look clock {name} found 0xa\n")?;
-        assert_eq!(rt; line, due);
+        is_told(&rt, Step { act, ..LOOK }, ["look", "clock", name, ""])?;
     }
     Ok(())
 }
@@ -157,18 +142,17 @@ fn writes_each_mark(rt: HostRuntime) -> Result<(), Fail> {
                 frame: 5,
                 upto: 512,
             },
-            "record 5 512",
+            " record 5 512",
         ),
-        (Mark::Shed { frame: 5, upto: 0 }, "shed 5 0"),
-        (Mark::Forget { page: 0xabc }, "forget 0xabc"),
-        (Mark::Cut { call: 0 }, "cut 0"),
-        (Mark::Turn, "turn"),
-        (Mark::Walk { write: true }, "walk write"),
-        (Mark::Walk { write: false }, "walk read"),
+        (Mark::Shed { frame: 5, upto: 0 }, " shed 5 0"),
+        (Mark::Forget { page: 0xabc }, " forget 0xabc"),
+        (Mark::Cut { call: 0 }, " cut 0"),
+        (Mark::Turn, " turn"),
+        (Mark::Walk { write: true }, " walk write"),
+        (Mark::Walk { write: false }, " walk read"),
     ] {
-        let line = line_of(&rt, StepKind::Look, 0, Act::Load, Some(mark))?;
-        let due = format!(in rt.alloc(); "step 1 look clock load found 0xa {name}\n")?;
-        assert_eq!(rt; line, due);
+        let mark = Some(mark);
+        is_told(&rt, Step { mark, ..LOOK }, ["look", "clock", "load", name])?;
     }
     Ok(())
 }

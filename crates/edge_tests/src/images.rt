@@ -1,11 +1,11 @@
-//! Two frames, two domains of which the first has privilege over the second, and one vCPU of the second.
+//! Images (machine_image): of two frames, two domains of which the first has privilege over the second, and one vCPU of the second.
 ghost use Rattle.std.specs.Prelude.{◌≡◌};
 
-use crate::{ImageFault, read_image, write_image};
-use arrayvec::ArrayVec;
+use crate::machines::short_list;
+use machine_image::{ImageFault, read_image, write_image};
 use sparse_words::SparseWords;
 use std::test::Fail;
-use xp_words::{Domains, Layout, Limits, Masks};
+use xp_words::Layout;
 
 // The image up to the number of the words, 1 + 3 * 2 + 38 + 515 * 2 + 1.
 const FRONT: [u8; 88] = [
@@ -16,20 +16,12 @@ const FRONT: [u8; 88] = [
 ];
 
 fn layout() -> Layout {
-    let mut page_limit = ArrayVec::new();
-    let mut privilege = ArrayVec::new();
-    let mut vcpu_domain = ArrayVec::new();
-    page_limit.push(65536);
-    page_limit.push(3);
-    privilege.push(2);
-    privilege.push(0);
-    vcpu_domain.push(1);
     Layout {
         frames: 2,
         limit: 67_108_863,
-        page_limit: Limits::new(page_limit),
-        privilege: Masks::new(privilege),
-        vcpu_domain: Domains::new(vcpu_domain),
+        page_limit: short_list(&[65536, 3]),
+        privilege: short_list(&[2, 0]),
+        vcpu_domain: short_list(&[1]),
     }
 }
 
@@ -86,16 +78,21 @@ fn reads_what_was_written(rt: HostRuntime) -> Result<(), Fail> {
 
 #[test]
 fn tells_where_the_first_fault_is(rt: HostRuntime) -> Result<(), Fail> {
-    assert_eq!(rt; fault(&rt, &[]), Some(0));
-    assert_eq!(rt; fault(&rt, &FRONT[..12]), Some(12));
-    assert_eq!(rt; fault(&rt, &FRONT), Some(88));
-    assert_eq!(rt; fault_with(&rt, 0, b'x')?, Some(0));
-    assert_eq!(rt; fault_with(&rt, 8, 0)?, Some(8));
-    assert_eq!(rt; fault_with(&rt, 40, 1)?, Some(40));
-    assert_eq!(rt; fault_with(&rt, 56, 1)?, Some(56));
-    assert_eq!(rt; fault_with(&rt, 56, 4)?, Some(56));
-    assert_eq!(rt; fault_with(&rt, 72, 2)?, Some(72));
-    assert_eq!(rt; fault_with(&rt, 80, 0)?, Some(80));
+    for length in [0, 12, 88] {
+        let front = FRONT.get(..length).ok_or("no more than the front")?;
+        assert_eq!(rt; fault(&rt, front), Some(length as u64));
+    }
+    for (place, byte) in [
+        (0, b'x'),
+        (8, 0),
+        (40, 1),
+        (56, 1),
+        (56, 4),
+        (72, 2),
+        (80, 0),
+    ] {
+        assert_eq!(rt; fault_with(&rt, place, byte)?, Some(place as u64));
+    }
     let mut bytes = image(&rt)?;
     bytes.push(0)?;
     assert_eq!(rt; fault(&rt, &bytes), Some(8696));

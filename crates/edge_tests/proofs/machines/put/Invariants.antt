@@ -1,5 +1,5 @@
 use Rattle.std.proofs.Common.{◌≡◌, vec_len}
-use Rattle.walk_audit.proofs.tests.put.Given as goal
+use Rattle.edge_tests.proofs.machines.put.Given as goal
 
 abbrev pub invariant-loop-place : goal.invariant-loop-place
 invariant-loop-place l = vec_len l.words ≡ vec_len l.initial.words

@@ -1,22 +1,16 @@
-//! Two frames that nobody owns, and a vCPU whose base names the first of them.
-use crate::{Tally, recount};
-use arrayvec::ArrayVec;
+//! References counted again (reference_recount): two frames that nobody owns, and a vCPU whose base names the first of them.
+use crate::machines::short_list;
+use reference_recount::{Tally, recount};
 use std::test::Fail;
-use xp_words::{Domains, Layout, Limits, Masks};
+use xp_words::Layout;
 
 fn layout() -> Layout {
-    let mut page_limit = ArrayVec::new();
-    let mut privilege = ArrayVec::new();
-    let mut vcpu_domain = ArrayVec::new();
-    page_limit.push(2);
-    privilege.push(0);
-    vcpu_domain.push(0);
     Layout {
         frames: 2,
         limit: 2,
-        page_limit: Limits::new(page_limit),
-        privilege: Masks::new(privilege),
-        vcpu_domain: Domains::new(vcpu_domain),
+        page_limit: short_list(&[2]),
+        privilege: short_list(&[0]),
+        vcpu_domain: short_list(&[0]),
     }
 }
 
