@@ -10,6 +10,7 @@ ptmac: this is no command line that it knows. It knows these:
 usage: ptmac COMMAND < TRACE
        ptmac generate COUNT
        ptmac audit [PATH]
+       ptmac draw [PATH]
 
   turns [--preempt N]   Runs the trace on standard input: the vCPUs take the turns that its
                         `turn` lines give them. Writes the report to standard output.
@@ -20,6 +21,8 @@ usage: ptmac COMMAND < TRACE
                         frames are free.
   audit [PATH]          Reads an image, from the file PATH or else from standard input, and writes
                         whether it is of a sound machine, or what breaks it first.
+  draw [PATH]           Reads an image likewise, and writes a drawing of its machine for Graphviz,
+                        as `dot -Tsvg` takes it; docs/DRAWING.md explains it.
 
   With --preempt N operations pause: each vCPU's gate says yes at each N-th time that it is
   asked. N is a decimal number up to 1000000 without leading zeros; with 0, as without the

@@ -1,42 +1,17 @@
 use crate::advice::advice_for;
 use xp_machine::Status;
 
-const USAGE: &str = "\
-ptmac: this is no command line that it knows. It knows these:
-
-usage: ptmac COMMAND < TRACE
-       ptmac generate COUNT
-       ptmac audit [PATH]
-
-  turns [--preempt N]   Runs the trace on standard input: the vCPUs take the turns that its
-                        `turn` lines give them. Writes the report to standard output.
-  replay [--preempt N]  The same, but each vCPU runs its whole script in a thread of its own.
-  image [--preempt N]   As turns, but writes the closing machine as an image, in binary.
-  generate COUNT        Reads nothing: makes a trace of COUNT operations, from 1 to 60000, runs it,
-                        and writes how many were done, refused and left pending, and how many
-                        frames are free.
-  audit [PATH]          Reads an image, from the file PATH or else from standard input, and writes
-                        whether it is of a sound machine, or what breaks it first.
-
-  With --preempt N operations pause: each vCPU's gate says yes at each N-th time that it is
-  asked. N is a decimal number up to 1000000 without leading zeros; with 0, as without the
-  option, no gate says yes. It may be written --preempt=N, too.
-
-  With turns --steps, before --preempt N or behind it, each step that was made follows the
-  report, a line each; docs/STEPS.md explains them.
-
-example: ptmac turns --preempt 300 < examples/pinned-in-several-turns.trace
-
-exit status:
-  0  what was asked for was written; of an audit: the machine is sound
-  2  the words are no command, and nothing was read
-  3  the input is no trace: the line on standard output says where and why
-  4  the input passes a limit: the line on standard output says which
-  5  reading the input failed
-  6  writing standard output failed
-  7  there was too little memory
-  8  the input is no image: the line on standard output says where
-  9  the machine of the image is not sound: the line on standard output says why";
+// Whether a line of the text begins with these words, behind two spaces.
+fn explains(text: &str, words: &str) -> bool {
+    for line in text.lines() {
+        if let Some(rest) = line.strip_prefix("  ") {
+            if rest.starts_with(words) {
+                return true;
+            }
+        }
+    }
+    false
+}
 
 #[test]
 fn a_done_run_is_silent(rt: HostRuntime) {
@@ -44,43 +19,45 @@ fn a_done_run_is_silent(rt: HostRuntime) {
 }
 
 #[test]
-fn unknown_words_get_the_usage(rt: HostRuntime) {
-    assert!(rt; advice_for(&Status::BadWords) == Some(USAGE));
+fn unknown_words_get_a_usage_that_explains_each_command_and_status(rt: HostRuntime) {
+    let usage = advice_for(&Status::BadWords).unwrap_or("");
+    for words in [
+        "turns [",
+        "replay [",
+        "image [",
+        "generate C",
+        "audit [",
+        "draw [",
+        "0 ",
+        "2 ",
+        "3 ",
+        "4 ",
+        "5 ",
+        "6 ",
+        "7 ",
+        "8 ",
+        "9 ",
+    ] {
+        assert!(rt; explains(usage, words), "{words}");
+    }
 }
 
-// Each in one line, with its statuses' own advice.
 #[test]
-fn every_other_status_gets_its_line(rt: HostRuntime) {
-    for (status, line) in [
-        (
-            Status::BadTrace,
-            "ptmac: the input is no trace. The line on standard output says which of its lines is wrong, and how; docs/TRACE.md explains the causes.",
-        ),
-        (
-            Status::TooLarge,
-            "ptmac: the input passes a limit. The line on standard output says which; docs/TRACE.md and docs/IMAGES.md list the limits.",
-        ),
-        (
-            Status::ReadFault,
-            "ptmac: reading the input failed. Give it a file that can be read, as in `ptmac turns < FILE` or `ptmac audit FILE`; a folder is none.",
-        ),
-        (
-            Status::WriteFault,
-            "ptmac: writing standard output failed, so the output is cut short. See that its place has room and that nothing closes it, and run again.",
-        ),
-        (
-            Status::Memory,
-            "ptmac: there was too little memory. Give it more, or a trace with fewer frames and operations.",
-        ),
-        (
-            Status::BadImage,
-            "ptmac: the input is no image. The line on standard output says where it first differs from one; docs/IMAGES.md says what stands there.",
-        ),
+fn every_other_status_gets_one_line_of_its_own(rt: HostRuntime) {
+    for (status, words) in [
+        (Status::BadTrace, "ptmac: the input is no trace."),
+        (Status::TooLarge, "ptmac: the input passes a limit."),
+        (Status::ReadFault, "ptmac: reading the input failed."),
+        (Status::WriteFault, "ptmac: writing standard output failed"),
+        (Status::Memory, "ptmac: there was too little memory."),
+        (Status::BadImage, "ptmac: the input is no image."),
         (
             Status::Unsound,
-            "ptmac: the machine of the image is not sound. The line on standard output says what breaks it first; docs/IMAGES.md explains it.",
+            "ptmac: the machine of the image is not sound.",
         ),
     ] {
-        assert!(rt; advice_for(&status) == Some(line));
+        let advice = advice_for(&status).unwrap_or("");
+        assert!(rt; advice.starts_with(words), "{words}");
+        assert!(rt; advice.split('\n').count() == 1, "{words}");
     }
 }
