@@ -1,0 +1,4 @@
+pub mod Below
+pub mod Tops
+pub mod Moments
+pub mod Pinning

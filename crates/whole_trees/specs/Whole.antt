@@ -1,0 +1,44 @@
+-- What page tables in use lead to, as a plain property of the words.
+use Rattle.std.specs.Prelude.{◌≡◌, ◌≢◌, ℕ, ◌<◌, ◌++◌, List, IsTrue}
+use Rattle.xp_words.specs.declared.kind.PageType.{PageType}
+use Rattle.xp_words.specs.declared.entry.Demand.TheVariants.{Bad, Typed}
+use Rattle.xp_words.specs.declared.place.Place.{Place}
+use Rattle.xp_words.specs.declared.place.Place.TheVariants.{Cell, Refs}
+use Rattle.xp_words.specs.Entries.{demand_at}
+use Rattle.xp_words.specs.Machine.{Machine}
+use Rattle.xp_words.specs.PageTypes.{is_table}
+use Rattle.xp_board.specs.declared.step.Step.{Step}
+use Rattle.xp_board.specs.Lawful.{IsCountedAs}
+use Rattle.xp_board.specs.Readings.{kind_at, owner_of, ref_count}
+use Rattle.xp_board.specs.Recorded.{names}
+use Rattle.xp_board.specs.Runs.{Run, State, start, word_at}
+use Rattle.xp_board.specs.Valid.{EntryPermitted}
+
+-- Frame f, as a table of type t, leads to a frame as one of type u: to itself, and where an entry of a table that it leads to asks that type of it.
+pub data Leads (m : Place → ℕ) (f : ℕ) (t : PageType) : ℕ → PageType → Type 0 where
+  itself : Leads m f t f t
+  below : (g i x : ℕ) (u w : PageType) → Leads m f t g u → IsTrue (is_table u) → i < 512 → demand_at u i (m (Cell g i)) ≡ Typed x w → Leads m f t x w
+
+-- Frame x is one of the machine, somebody refers to it, and a table g of type u may name it.
+pub record IsGranted (n : Machine) (m : Place → ℕ) (g : ℕ) (u : PageType) (x : ℕ) : Type 0 where
+  pub inside : x < n.frames
+  pub counted : 0 < ref_count (m (Refs x))
+  pub permitted : EntryPermitted m u (owner_of (m (Refs g))) x
+
+-- All that frame f leads to as a table of type t is validated: live with the type that is asked of it, and with a type count. No entry of these tables asks
+-- what may not be, and what each names is granted.
+pub record IsWhole (n : Machine) (m : Place → ℕ) (f : ℕ) (t : PageType) : Type 0 where
+  pub live : (g : ℕ) (u : PageType) → Leads m f t g u → IsCountedAs (kind_at m g) u
+  pub inside : (g : ℕ) (u : PageType) → Leads m f t g u → g < n.frames
+  pub allowed : (g i : ℕ) (u : PageType) → Leads m f t g u → IsTrue (is_table u) → i < 512 → demand_at u i (m (Cell g i)) ≢ Bad
+  pub granted : (g i x : ℕ) (u : PageType) → Leads m f t g u → IsTrue (is_table u) → i < 512 → names x (demand_at u i (m (Cell g i))) ≡ 1 → IsGranted n m g u x
+
+-- At some moment of a run from the opening words frame f is pinned, with type t and whole.
+pub record WasPinned (n : Machine) (opening : List ℕ) (log : List (ℕ × Step)) (f : ℕ) : Type 0 where
+  pub newer : List (ℕ × Step)
+  pub older : List (ℕ × Step)
+  pub parts : log ≡ newer ++ older
+  pub moment : State
+  pub run : Run n (start n opening) older moment
+  pub pinned : IsTrue (kind_at (word_at n moment) f).pinned
+  pub whole : IsWhole n (word_at n moment) f (kind_at (word_at n moment) f).kind
