@@ -1,4 +1,6 @@
 pub mod Below
 pub mod Tops
 pub mod Moments
+pub mod Hands
+pub mod Typing
 pub mod Pinning

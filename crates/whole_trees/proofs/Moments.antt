@@ -74,7 +74,7 @@ module _ (n : Machine) (opening : List ℕ) (s : ℕ) (sound : SoundWords n open
           found = ap (λ z. word_at n c (place_of n z)) (sym step_is) ∙ ap (λ (z : Made). z.found) one;
           step =
               subst (λ z. StepsTo n c s z (next n c s z)) step_is
-                  (subst (λ i. StepsTo n c i y (next n c i y)) (sym same) (record { vcpu = to.vcpu; legal = to.legal; next_is = refl }));
+              (subst (λ i. StepsTo n c i y (next n c i y)) (sym same) (record { vcpu = to.vcpu; legal = to.legal; next_is = refl }));
         }
 
   module _ (c b : State) (t : ℕ) (y : Step) (es : List (ℕ × Step)) (run : Run n (start n opening) es c) (to : StepsTo n c t y b) (x : Made) (rest : List Made)

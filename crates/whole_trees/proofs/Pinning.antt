@@ -1,121 +1,174 @@
 -- The step that sets a pin, and the moment behind it.
-use Rattle.std.proofs.Common.{◌≡◌, ◌+◌, ◌%◌, ◌^◌, ◌<◌, ◌==◌, ◌++◌, if◌then◌else◌, ℕ, Bool, true, false, List, [], ◌∷◌, Result, Ok, Err, None, IsTrue, refl, sym, ap, subst, ◌∙◌, arith}
+use Rattle.std.proofs.Common.{◌≡◌, ◌^◌, ◌<◌, ◌==◌, ◌++◌, ℕ, Bool, true, List, ◌∷◌, Result, Ok, None, IsTrue, refl, sym, ap, subst, ◌∙◌, Some, ◌≤◌, arith}
 use Rattle.std.proofs.lemmas.Bool.Decides.{nat_tests}
 use Rattle.xp_words.specs.declared.kind.KindWord.{KindWord}
+use Rattle.xp_words.specs.declared.kind.PageType.{PageType}
+use Rattle.xp_words.specs.declared.place.Place.{Place}
 use Rattle.xp_words.specs.declared.place.Place.TheVariants.{Kind}
 use Rattle.xp_words.specs.declared.reply.Stop.{Stop}
 use Rattle.xp_words.specs.KindWords.{kind_fields, kind_write}
 use Rattle.xp_words.specs.Machine.{Machine}
-use Rattle.xp_words.specs.Places.{is_place, memory, sizes_of}
+use Rattle.xp_words.specs.Places.{is_place, sizes_of}
+use Rattle.xp_words.proofs.KindLaws.{fields_back}
 use Rattle.xp_words.proofs.PlaceLaws.{memory_same, place_back}
 use Rattle.xp_board.specs.declared.holdings.Made.{Made}
-use Rattle.xp_board.specs.declared.step.Act.TheVariants.{Cas}
+use Rattle.xp_board.specs.declared.holdings.Holdings.{Holdings}
+use Rattle.xp_board.specs.declared.step.Act.TheVariants.{Cas, Load}
 use Rattle.xp_board.specs.declared.step.Step.{Step}
 use Rattle.xp_board.specs.declared.step.StepKind.TheVariants as kinds
 use Rattle.xp_board.specs.Acts.{left_by}
+use Rattle.xp_board.specs.After.{hands_of}
+use Rattle.xp_board.specs.Hands.{empty}
+use Rattle.xp_board.specs.Lists.{EachOf}
 use Rattle.xp_board.specs.Readings.{kind_at}
+use Rattle.xp_board.specs.Recorded.{HasType}
 use Rattle.xp_board.specs.Runs.{Run, State, next, place_of, start, word_at}
 use Rattle.xp_board.specs.Sound.{SoundState, SoundWords, hand_of}
 use Rattle.xp_board.specs.Told.{Post, PortValue}
-use Rattle.step_maker.specs.Moves.{moved, step_at}
+use Rattle.step_maker.specs.Moves.{Came, step_at}
+use Rattle.step_maker.proofs.Coming.{came_post, came_trans, moves_came}
 use Rattle.step_maker.proofs.Noting.{made_now, moves_steps}
 use Rattle.sound_rule.proofs.OwnRun.{RunsSound}
+use Rattle.partial_state.specs.Levels.{level_type}
 use Rattle.table_words.specs.Pins.{pinned_kind}
-use Rattle.mmuext_ops.specs.Course.{PinEnds, Pinned, SetsPin, acquired, lost, pinned, pinned_before, raced, refused, seen, unreferred}
-use Rattle.whole_trees.specs.Whole.{WasPinned}
+use Rattle.table_entries.proofs.Shared.{gave_came, ref_came}
+use Rattle.course_laws.proofs.Stopping.{acquired_came}
+use Rattle.mmuext_ops.specs.Course.{PinEnds, Pinned, SawKind, SetsPin, acquired, lost, pinned, pinned_before, raced, refused, seen, unreferred}
+use Rattle.whole_trees.specs.Whole.{IsWhole, WasPinned}
+use Rattle.whole_trees.proofs.Hands.{came_told, run_told}
 use Rattle.whole_trees.proofs.Moments.{Stood, state, stood}
 use Rattle.whole_trees.proofs.Tops.{pinned_whole}
+use Rattle.whole_trees.proofs.Typing.{HasTyped, acquired_has, as_typed}
 
 -- ---- the last step of a pin that is done
-pub record SetsIt (w : PortValue) (f : ℕ) : Type 0 where
+-- behind a look, with a typed reference in hand
+pub record SetsIt (v w : PortValue) (f : ℕ) (t : PageType) : Type 0 where
   pub from : PortValue
+  pub before : Came v from
+  pub has : HasTyped f t from.holdings
   pub word : ℕ
   pub sets : SetsPin from w f word word
 
-set_by_end : (v w : PortValue) (f level : ℕ) (r : Result (Unit {0}) Stop) → PinEnds v w f level r → r ≡ Ok tt → SetsIt w f
-set_by_end v w f level _ (pinned u x saw off sets) e = record { from = u; word = x; sets = sets }
-set_by_end v w f level _ (seen u x saw on gone) e = absurd cc
-set_by_end v w f level _ (raced u y x found saw off tried away on gone) e = absurd cc
-set_by_end v w f level _ (lost u y x found saw off tried away still gone) e = absurd cc
+looked_has : (v u : PortValue) (f x : ℕ) (t : PageType) → SawKind v u f x → HasTyped f t v.holdings → HasTyped f t u.holdings
+looked_has v u f x t saw has = as_typed f t v.holdings u.holdings (ap (λ (y : PortValue). y.holdings.typed) saw.to) has
 
-set_by_pin : (v w : PortValue) (d f level : ℕ) (answers : List Bool) (r : Result (Unit {0}) Stop) → Pinned v w d f level answers r → r ≡ Ok tt → SetsIt w f
-set_by_pin v w d f level _ _ (unreferred stop ref) e = absurd cc
-set_by_pin v w d f level _ _ (pinned_before a b x ref saw gave same) e = absurd cc
-set_by_pin v w d f level _ _ (refused a b c x answers stop ref saw gave other acquisition) e = absurd cc
-set_by_pin v w d f level _ _ (acquired a b c y x answers answer ref saw gave other acquisition ends) e = set_by_end y w f level answer ends e
+set_by_end : (v e w : PortValue) (f level : ℕ) (r : Result (Unit {0}) Stop) → Came v e → HasTyped f (level_type level) e.holdings → PinEnds e w f level r → r ≡ Ok tt → SetsIt v w f (level_type level)
+set_by_end v e w f level _ came has (pinned u x saw off sets) is =
+    record { from = u; before = came_trans v e u came (moves_came e u (Kind f) Load kinds.Look None x saw); has = looked_has e u f x (level_type level) saw has; word = x; sets = sets }
+set_by_end v e w f level _ came has (seen u x saw on gone) is = absurd cc
+set_by_end v e w f level _ came has (raced u y x found saw off tried away on gone) is = absurd cc
+set_by_end v e w f level _ came has (lost u y x found saw off tried away still gone) is = absurd cc
+
+set_by_pin : (v w : PortValue) (d f level : ℕ) (answers : List Bool) (r : Result (Unit {0}) Stop) → 1 ≤ level → Pinned v w d f level answers r → r ≡ Ok tt → SetsIt v w f (level_type level)
+set_by_pin v w d f level _ _ table (unreferred stop ref) is = absurd cc
+set_by_pin v w d f level _ _ table (pinned_before a b x ref saw gave same) is = absurd cc
+set_by_pin v w d f level _ _ table (refused a b c x answers stop ref saw gave other acquisition) is = absurd cc
+set_by_pin v w d f level _ _ table (acquired a b c e x answers answer ref saw gave other acquisition ends) is =
+    let came : Came v e =
+    came_trans v a e (ref_came v a f d _ ref)
+    (came_trans a b e (moves_came a b (Kind f) Load kinds.Look None x saw) (came_trans b c e (gave_came b c f gave) (acquired_came c f d level e answers (Ok f) acquisition))) in
+    set_by_end v e w f level answer came (acquired_has c e f d level answers (Ok f) table acquisition refl) ends is
 
 -- ---- the word that it leaves
-number_small : (x : ℕ) → (kind_fields x).number < 2 ^ 36
+short : (x : ℕ) → ((kind_fields x).number < 2 ^ 36) × ((kind_fields x).progress < 2 ^ 10)
 unfolding kind_fields
-number_small x = omega arith
-
-progress_small : (x : ℕ) → (kind_fields x).progress < 2 ^ 10
-unfolding kind_fields
-progress_small x = omega arith
-
-pinned_back : (k : KindWord) → k.number < 2 ^ 36 → k.progress < 2 ^ 10 → (kind_fields (kind_write k)).pinned ≡ k.pinned
-unfolding kind_fields kind_write
-pinned_back k number progress = grind (arith, nat_tests)
-
-is_pinned_now : (x : ℕ) → (kind_fields (kind_write (pinned_kind (kind_fields x)))).pinned ≡ true
-is_pinned_now x = pinned_back (pinned_kind (kind_fields x)) (number_small x) (progress_small x)
+short x = (omega arith, omega arith)
 
 same_found : (x l : ℕ) → left_by (Cas x l) x ≡ l
 unfolding left_by
 same_found x l = let e : (x == x) ≡ true = grind (arith, nat_tests) in rw e refl
 
-module _ (n : Machine) (opening : List ℕ) (log : List (ℕ × Step)) (b : State) (later : List Made) (w : PortValue) (f : ℕ) (sound : SoundWords n opening) (runs : RunsSound) (run : Run n (start n opening) log b)
-    (machine : w.post.machine ≡ n) (is : (hand_of b.hands w.post.vcpu).steps ≡ later ++ w.holdings.steps) (set : SetsIt w f) where
+first_typed : (m : Place → ℕ) (f : ℕ) (t : PageType) (h : Holdings) → HasTyped f t h → EachOf (λ e. HasType m e.frame e.kind) h.typed → (kind_at m f).kind ≡ t
+unfolding EachOf
+first_typed m f t h has each =
+    let first = (subst (λ xs. EachOf (λ e. HasType m e.frame e.kind) xs) has.typed each).0 in
+    subst (λ g. HasType m g (Some t)) has.frame (subst (λ k. HasType m has.newest.frame k) has.kind first)
+
+module _ (n : Machine) (opening : List ℕ) (log : List (ℕ × Step)) (b : State) (later : List Made) (o v w : PortValue) (f : ℕ) (t : PageType) (sound : SoundWords n opening) (runs : RunsSound) (run : Run n (start n opening) log b)
+    (machine : o.post.machine ≡ n) (none : o.holdings ≡ empty) (came : Came o v) (is : (hand_of b.hands o.post.vcpu).steps ≡ later ++ w.holdings.steps) (set : SetsIt v w f t) where
+  abbrev s : ℕ
+  s = o.post.vcpu
+
+  abbrev k : KindWord
+  k = kind_fields set.word
+
   abbrev new : ℕ
-  new = kind_write (pinned_kind (kind_fields set.word))
+  new = kind_write (pinned_kind k)
 
   abbrev step : Step
   step = step_at n (Kind f) (Cas set.word new) kinds.Kind None
 
-  post : set.from.post ≡ w.post
-  post = sym (ap (λ (y : PortValue). y.post) set.sets.to)
+  to_it : Came o set.from
+  to_it = came_trans o v set.from came set.before
 
   own : set.from.post.machine ≡ n
-  own = ap (λ (o : Post). o.machine) post ∙ machine
+  own = ap (λ (q : Post). q.machine) (came_post o set.from to_it) ∙ machine
 
   steps : w.holdings.steps ≡ made_now step set.word ∷ set.from.holdings.steps
   steps =
       moves_steps set.from w (Kind f) (Cas set.word new) kinds.Kind None set.word set.sets
       ∙ ap (λ m. made_now (step_at m (Kind f) (Cas set.word new) kinds.Kind None) set.word ∷ set.from.holdings.steps) own
 
-  there : Stood n opening log w.post.vcpu (made_now step set.word) set.from.holdings.steps
-  there = stood n opening w.post.vcpu sound runs b log later (made_now step set.word) set.from.holdings.steps run (is ∙ ap (λ xs. later ++ xs) steps)
+  there : Stood n opening log s (made_now step set.word) set.from.holdings.steps
+  there = stood n opening s sound runs b log later (made_now step set.word) set.from.holdings.steps run (is ∙ ap (λ xs. later ++ xs) steps)
 
   abbrev moment : State
-  moment = next n there.before w.post.vcpu step
+  moment = next n there.before s step
 
-  behind : Run n (start n opening) ((w.post.vcpu, step) ∷ there.older) moment
+  behind : Run n (start n opening) ((s, step) ∷ there.older) moment
   behind = (there.before, there.run, there.step)
 
   is_there : place_of n step ≡ Kind f
   is_there = place_back (sizes_of n) (Kind f) (subst (λ m. IsTrue (is_place (sizes_of m) (Kind f))) own set.sets.may.place)
 
+  -- ---- the moment before it
+  state_before : SoundState n there.before.words there.before.hands
+  state_before = state n opening s sound runs there.before there.older there.run
+
+  hand_before : hand_of there.before.hands s ≡ set.from.holdings
+  hand_before =
+      run_told n opening s sound runs there.before there.older there.run ∙ ap (λ xs. hands_of n s xs) there.steps
+      ∙ sym (subst (λ m. set.from.holdings ≡ hands_of m s set.from.holdings.steps) machine (came_told o set.from none to_it))
+
+  found_before : word_at n there.before (Kind f) ≡ set.word
+  found_before = ap (word_at n there.before) (sym is_there) ∙ there.found
+
+  kind_before : k.kind ≡ t
+  kind_before =
+      ap (λ y. (kind_fields y).kind) (sym found_before)
+      ∙ first_typed (word_at n there.before) f t (hand_of there.before.hands s) (subst (HasTyped f t) (sym hand_before) set.has) (state_before.sound.counts.kinds.typed s there.step.vcpu)
+
+  -- ---- the moment behind it
   word_now : word_at n moment (Kind f) ≡ new
   word_now =
       let real = subst (λ p. IsTrue (is_place (sizes_of n) p)) is_there there.step.legal.place in
-      memory_same (sizes_of n) there.before.words (Kind f) (left_by (Cas set.word new) (word_at n there.before (place_of n step))) real (state n opening w.post.vcpu sound runs there.before there.older there.run).all_words
+      memory_same (sizes_of n) there.before.words (Kind f) (left_by (Cas set.word new) (word_at n there.before (place_of n step))) real state_before.all_words
       ∙ ap (left_by (Cas set.word new)) there.found ∙ same_found set.word new
 
-  on : IsTrue (kind_at (word_at n moment) f).pinned
-  on = ap (λ y. (kind_fields y).pinned) word_now ∙ is_pinned_now set.word
+  kind_now : kind_at (word_at n moment) f ≡ pinned_kind k
+  kind_now = ap kind_fields word_now ∙ fields_back (pinned_kind k) (short set.word).0 (short set.word).1
 
-  pub was_pinned : WasPinned n opening log f
+  on : IsTrue (kind_at (word_at n moment) f).pinned
+  on = ap (λ (y : KindWord). y.pinned) kind_now
+
+  typed_now : (kind_at (word_at n moment) f).kind ≡ t
+  typed_now = ap (λ (y : KindWord). y.kind) kind_now ∙ kind_before
+
+  pub was_pinned : WasPinned n opening log f t
   was_pinned =
       record {
         newer = there.newer;
-        older = (w.post.vcpu, step) ∷ there.older;
+        older = (s, step) ∷ there.older;
         parts = there.parts;
         moment = moment;
         run = behind;
         pinned = on;
-        whole = (pinned_whole n (word_at n moment) (hand_of moment.hands) (state n opening w.post.vcpu sound runs moment ((w.post.vcpu, step) ∷ there.older) behind).sound f on).1;
+        kind = typed_now;
+        whole = subst (λ u. IsWhole n (word_at n moment) f u) typed_now (pinned_whole n (word_at n moment) (hand_of moment.hands) (state n opening s sound runs moment ((s, step) ∷ there.older) behind).sound f on).1;
       }
 
-pub pin_was_set : RunsSound → (n : Machine) (opening : List ℕ) (log : List (ℕ × Step)) (b : State) (later : List Made) (v w : PortValue) (d f level : ℕ) (answers : List Bool) →
-    SoundWords n opening → Run n (start n opening) log b → w.post.machine ≡ n → (hand_of b.hands w.post.vcpu).steps ≡ later ++ w.holdings.steps → Pinned v w d f level answers (Ok tt) → WasPinned n opening log f
-pin_was_set runs n opening log b later v w d f level answers sound run machine is pin = was_pinned n opening log b later w f sound runs run machine is (set_by_pin v w d f level answers (Ok tt) pin refl)
+pub pin_was_set : RunsSound → (n : Machine) (opening : List ℕ) (log : List (ℕ × Step)) (b : State) (later : List Made) (o v w : PortValue) (d f level : ℕ) (answers : List Bool) →
+    SoundWords n opening → Run n (start n opening) log b → o.post.machine ≡ n → o.holdings ≡ empty → Came o v → (hand_of b.hands o.post.vcpu).steps ≡ later ++ w.holdings.steps → 1 ≤ level →
+    Pinned v w d f level answers (Ok tt) → WasPinned n opening log f (level_type level)
+pin_was_set runs n opening log b later o v w d f level answers sound run machine none came is table pin =
+    was_pinned n opening log b later o v w f (level_type level) sound runs run machine none came is (set_by_pin v w d f level answers (Ok tt) table pin refl)

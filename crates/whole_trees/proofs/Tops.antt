@@ -1,8 +1,9 @@
 -- Pinned tables and bases are live and counted.
-use Rattle.std.proofs.Common.{◌≡◌, ◌+◌, ◌<◌, ◌&&◌, not, ℕ, Bool, true, false, IsTrue, Some, inl, inr, refl, ap, ◌∙◌, arith}
+use Rattle.std.proofs.Common.{◌≡◌, ◌+◌, ◌<◌, ℕ, true, false, IsTrue, Some, inl, inr, refl, sym, ap, ◌∙◌, arith}
 use Rattle.std.proofs.lemmas.Bool.{cases_Bool}
 use Rattle.std.proofs.lemmas.Bool.Decides.{nat_tests}
 use Rattle.xp_words.specs.declared.kind.KindWord.{KindWord}
+use Rattle.xp_words.specs.declared.kind.PageType.{PageType}
 use Rattle.xp_words.specs.declared.kind.PageType.TheVariants.{L4}
 use Rattle.xp_words.specs.declared.place.Place.{Place}
 use Rattle.xp_words.specs.declared.place.Place.TheVariants.{Kind, Refs, Vcpu}
@@ -16,7 +17,7 @@ use Rattle.xp_board.specs.Sound.{Sound, Spelled}
 use Rattle.xp_board.specs.Spelling.{IsSpelling}
 use Rattle.xp_board.proofs.KindForms.{spelled_form}
 use Rattle.xp_board.proofs.LiveTables.{base_table}
-use Rattle.whole_trees.specs.Whole.{IsWhole}
+use Rattle.whole_trees.specs.Whole.{AllWhole, IsWhole, Leads}
 use Rattle.whole_trees.proofs.Below.{is_whole}
 
 record IsPinnedTable (k : KindWord) : Type 0 where
@@ -46,7 +47,13 @@ module _ (n : Machine) (m : Place → ℕ) (h : ℕ → Holdings) (sound : Sound
       let is = pinned_table n m f sound.spelled on in
       (is.table, is_whole n m h sound f (kind_at m f).kind (record { live = is.live; kind = refl; counted = is.counted }))
 
-  pub base_whole : (v k f : ℕ) → v < (sizes_of n).vcpus → k < 2 → m (Vcpu v k) ≡ f + 1 → (owner_of (m (Refs f)) ≡ Some (domain_of n v)) × IsWhole n m f L4
+  base_whole : (v k f : ℕ) → v < (sizes_of n).vcpus → k < 2 → m (Vcpu v k) ≡ f + 1 → (owner_of (m (Refs f)) ≡ Some (domain_of n v)) × IsWhole n m f L4
   base_whole v k f real base names =
       let top = base_table n m h sound v k f real base names in
       (top.owner, is_whole n m h sound f L4 (record { live = top.live; kind = top.kind; counted = top.counted }))
+
+  pub all_whole : AllWhole n m
+  all_whole = record { pinned = pinned_whole; bases = base_whole }
+
+pub one_type : (n : Machine) (m : Place → ℕ) (f g x : ℕ) (t u v w : PageType) → IsWhole n m f t → IsWhole n m g u → Leads m f t x v → Leads m g u x w → v ≡ w
+one_type n m f g x t u v w first second a b = sym (first.live x v a).kind ∙ (second.live x w b).kind

@@ -1,15 +1,17 @@
 -- What page tables in use lead to, as a plain property of the words.
-use Rattle.std.specs.Prelude.{◌≡◌, ◌≢◌, ℕ, ◌<◌, ◌++◌, List, IsTrue}
+use Rattle.std.specs.Prelude.{◌≡◌, ◌≢◌, ℕ, ◌+◌, ◌<◌, ◌++◌, List, Some, IsTrue}
 use Rattle.xp_words.specs.declared.kind.PageType.{PageType}
 use Rattle.xp_words.specs.declared.entry.Demand.TheVariants.{Bad, Typed}
 use Rattle.xp_words.specs.declared.place.Place.{Place}
-use Rattle.xp_words.specs.declared.place.Place.TheVariants.{Cell, Refs}
+use Rattle.xp_words.specs.declared.kind.PageType.TheVariants.{L4}
+use Rattle.xp_words.specs.declared.place.Place.TheVariants.{Cell, Refs, Vcpu}
 use Rattle.xp_words.specs.Entries.{demand_at}
 use Rattle.xp_words.specs.Machine.{Machine}
 use Rattle.xp_words.specs.PageTypes.{is_table}
+use Rattle.xp_words.specs.Places.{sizes_of}
 use Rattle.xp_board.specs.declared.step.Step.{Step}
 use Rattle.xp_board.specs.Lawful.{IsCountedAs}
-use Rattle.xp_board.specs.Readings.{kind_at, owner_of, ref_count}
+use Rattle.xp_board.specs.Readings.{domain_of, kind_at, owner_of, ref_count}
 use Rattle.xp_board.specs.Recorded.{names}
 use Rattle.xp_board.specs.Runs.{Run, State, start, word_at}
 use Rattle.xp_board.specs.Valid.{EntryPermitted}
@@ -33,12 +35,18 @@ pub record IsWhole (n : Machine) (m : Place → ℕ) (f : ℕ) (t : PageType) : 
   pub allowed : (g i : ℕ) (u : PageType) → Leads m f t g u → IsTrue (is_table u) → i < 512 → demand_at u i (m (Cell g i)) ≢ Bad
   pub granted : (g i x : ℕ) (u : PageType) → Leads m f t g u → IsTrue (is_table u) → i < 512 → names x (demand_at u i (m (Cell g i))) ≡ 1 → IsGranted n m g u x
 
--- At some moment of a run from the opening words frame f is pinned, with type t and whole.
-pub record WasPinned (n : Machine) (opening : List ℕ) (log : List (ℕ × Step)) (f : ℕ) : Type 0 where
+-- So is each pinned frame, as the table that its kind word says, and each kernel or user base, as a top table of its vCPU's own domain.
+pub record AllWhole (n : Machine) (m : Place → ℕ) : Type 0 where
+  pub pinned : (f : ℕ) → IsTrue (kind_at m f).pinned → IsTrue (is_table (kind_at m f).kind) × IsWhole n m f (kind_at m f).kind
+  pub bases : (v k f : ℕ) → v < (sizes_of n).vcpus → k < 2 → m (Vcpu v k) ≡ f + 1 → (owner_of (m (Refs f)) ≡ Some (domain_of n v)) × IsWhole n m f L4
+
+-- At some moment of a run from the opening words frame f is pinned with type t, and whole.
+pub record WasPinned (n : Machine) (opening : List ℕ) (log : List (ℕ × Step)) (f : ℕ) (t : PageType) : Type 0 where
   pub newer : List (ℕ × Step)
   pub older : List (ℕ × Step)
   pub parts : log ≡ newer ++ older
   pub moment : State
   pub run : Run n (start n opening) older moment
   pub pinned : IsTrue (kind_at (word_at n moment) f).pinned
-  pub whole : IsWhole n (word_at n moment) f (kind_at (word_at n moment) f).kind
+  pub kind : (kind_at (word_at n moment) f).kind ≡ t
+  pub whole : IsWhole n (word_at n moment) f t
