@@ -1,5 +1,5 @@
 -- What a vCPU holds is told by its own steps: at a port that began with nothing in hand, and on a run.
-use Rattle.std.proofs.Common.{◌≡◌, ◌≢◌, ◌<◌, ◌==◌, ℕ, Bool, true, false, List, [], ◌∷◌, Option, length, refl, sym, ap, subst, ◌∙◌, arith, get_or-set_same}
+use Rattle.std.proofs.Common.{◌≡◌, ◌≢◌, ◌<◌, ◌==◌, ◌++◌, ℕ, Bool, true, false, List, [], ◌∷◌, Option, length, refl, sym, ap, subst, ◌∙◌, arith, get_or-set_same}
 use Rattle.std.proofs.lemmas.List.{get_or-set_other}
 use Rattle.std.proofs.lemmas.Bool.Decides.{nat_tests}
 use Rattle.xp_words.specs.Machine.{Machine}
@@ -7,6 +7,7 @@ use Rattle.xp_words.specs.declared.place.Place.{Place}
 use Rattle.xp_words.specs.Places.{place_at, sizes_of}
 use Rattle.xp_words.proofs.PlaceLaws.{place_back}
 use Rattle.xp_board.specs.declared.holdings.Holdings.{Holdings}
+use Rattle.xp_board.specs.declared.holdings.Made.{Made}
 use Rattle.xp_board.specs.declared.step.Act.{Act}
 use Rattle.xp_board.specs.declared.step.Mark.{Mark}
 use Rattle.xp_board.specs.declared.step.Step.{Step}
@@ -18,7 +19,7 @@ use Rattle.xp_board.specs.Sound.{SoundWords, hand_of}
 use Rattle.xp_board.specs.Told.{Post, PortValue}
 use Rattle.step_maker.specs.Moves.{Came, Moment, Moves, Ran, step_at}
 use Rattle.step_maker.proofs.Coming.{ran_post}
-use Rattle.step_maker.proofs.Noting.{moves_steps}
+use Rattle.step_maker.proofs.Noting.{made_now, moves_steps}
 use Rattle.sound_rule.proofs.OwnRun.{RunsSound, steps_after}
 use Rattle.shared_board.proofs.Opened.{all_empty}
 use Rattle.whole_trees.proofs.Moments.{state}
@@ -50,6 +51,18 @@ pub came_told : (v w : PortValue) → v.holdings ≡ empty → Came v w → IsTo
 unfolding Came hands_of
 came_told v w none came =
     ran_told v w came.0 came.1 (none ∙ sym (ap (λ (h : Holdings). hands_of v.post.machine v.post.vcpu h.steps) none))
+
+-- steps behind others
+ran_more : (v w : PortValue) (ms : List Moment) → Ran v ms w → (more : List Made) × (w.holdings.steps ≡ more ++ v.holdings.steps)
+ran_more v w [] ran = ([], ap (λ (y : PortValue). y.holdings.steps) ran)
+ran_more v w (m ∷ ms) ran =
+    let before = ran_more v ran.0 ms ran.1 in
+    let made = made_now (step_at ran.0.post.machine m.place m.act m.kind m.mark) m.found in
+    (made ∷ before.0, moves_steps ran.0 w m.place m.act m.kind m.mark m.found ran.2.moves ∙ ap (λ (xs : List Made). made ∷ xs) before.1)
+
+pub came_more : (v w : PortValue) → Came v w → (more : List Made) × (w.holdings.steps ≡ more ++ v.holdings.steps)
+unfolding Came
+came_more v w came = ran_more v w came.0 came.1
 
 -- ---- on a run
 module _ (n : Machine) (opening : List ℕ) (s : ℕ) (sound : SoundWords n opening) (runs : RunsSound) where

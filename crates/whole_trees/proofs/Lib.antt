@@ -4,3 +4,4 @@ pub mod Moments
 pub mod Hands
 pub mod Typing
 pub mod Pinning
+pub mod Listed

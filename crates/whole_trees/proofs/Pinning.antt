@@ -35,7 +35,7 @@ use Rattle.table_entries.proofs.Shared.{gave_came, ref_came}
 use Rattle.course_laws.proofs.Stopping.{acquired_came}
 use Rattle.mmuext_ops.specs.Course.{PinEnds, Pinned, SawKind, SetsPin, acquired, lost, pinned, pinned_before, raced, refused, seen, unreferred}
 use Rattle.whole_trees.specs.Whole.{IsWhole, WasPinned}
-use Rattle.whole_trees.proofs.Hands.{came_told, run_told}
+use Rattle.whole_trees.proofs.Hands.{came_more, came_told, run_told}
 use Rattle.whole_trees.proofs.Moments.{Stood, state, stood}
 use Rattle.whole_trees.proofs.Tops.{pinned_whole}
 use Rattle.whole_trees.proofs.Typing.{HasTyped, acquired_has, as_typed}
@@ -167,8 +167,9 @@ module _ (n : Machine) (opening : List ℕ) (log : List (ℕ × Step)) (b : Stat
         whole = subst (λ u. IsWhole n (word_at n moment) f u) typed_now (pinned_whole n (word_at n moment) (hand_of moment.hands) (state n opening s sound runs moment ((s, step) ∷ there.older) behind).sound f on).1;
       }
 
-pub pin_was_set : RunsSound → (n : Machine) (opening : List ℕ) (log : List (ℕ × Step)) (b : State) (later : List Made) (o v w : PortValue) (d f level : ℕ) (answers : List Bool) →
-    SoundWords n opening → Run n (start n opening) log b → o.post.machine ≡ n → o.holdings ≡ empty → Came o v → (hand_of b.hands o.post.vcpu).steps ≡ later ++ w.holdings.steps → 1 ≤ level →
-    Pinned v w d f level answers (Ok tt) → WasPinned n opening log f (level_type level)
-pin_was_set runs n opening log b later o v w d f level answers sound run machine none came is table pin =
-    was_pinned n opening log b later o v w f (level_type level) sound runs run machine none came is (set_by_pin v w d f level answers (Ok tt) table pin refl)
+pub pin_was_set : RunsSound → (n : Machine) (opening : List ℕ) (log : List (ℕ × Step)) (b : State) (o v w z : PortValue) (d f level : ℕ) (answers : List Bool) →
+    SoundWords n opening → Run n (start n opening) log b → o.post.machine ≡ n → o.holdings ≡ empty → (hand_of b.hands o.post.vcpu).steps ≡ z.holdings.steps →
+    Came o v → 1 ≤ level → Pinned v w d f level answers (Ok tt) → Came w z → WasPinned n opening log f (level_type level)
+pin_was_set runs n opening log b o v w z d f level answers sound run machine none is came table pin goes =
+    let more = came_more w z goes in
+    was_pinned n opening log b more.0 o v w f (level_type level) sound runs run machine none came (is ∙ more.1) (set_by_pin v w d f level answers (Ok tt) table pin refl)

@@ -1,13 +1,13 @@
 //! What page tables in use lead to, at each moment between two steps of any vCPUs. These functions do nothing: their contracts are laws.
 #![tactic(auto)]
 
-ghost use Rattle.std.specs.Prelude.{◌≡◌, ◌≤◌, ◌++◌, ℕ, Bool, IsTrue, List, Ok};
+ghost use Rattle.std.specs.Prelude.{◌≡◌, ◌+◌, ◌<◌, ◌≤◌, ℕ, slice_get, Bool, IsTrue, List, Ok, Option, Some};
 ghost use Rattle.xp_words.specs.declared.kind.PageType.{PageType};
 ghost use Rattle.xp_words.specs.declared.place.Place.{Place};
+ghost use Rattle.xp_words.specs.declared.ops.ExtOp.{ExtOp};
 ghost use Rattle.xp_words.specs.Machine.{Machine};
 ghost use Rattle.xp_words.specs.PageTypes.{is_table};
 ghost use Rattle.xp_board.specs.declared.holdings.Holdings.{Holdings};
-ghost use Rattle.xp_board.specs.declared.holdings.Made.{Made};
 ghost use Rattle.xp_board.specs.declared.step.Step.{Step};
 ghost use Rattle.xp_board.specs.Hands.{empty};
 ghost use Rattle.xp_board.specs.Lawful.{IsCountedAs};
@@ -18,6 +18,7 @@ ghost use Rattle.xp_board.specs.Told.{PortValue};
 ghost use Rattle.step_maker.specs.Moves.{Came};
 ghost use Rattle.partial_state.specs.Levels.{level_type};
 ghost use Rattle.mmuext_ops.specs.Course.{Pinned};
+ghost use Rattle.vcpu_turn.specs.Ext.{ExtFits};
 ghost use Rattle.whole_trees.specs.Whole.{AllWhole, IsWhole, Leads, WasPinned};
 
 use sound_rule::every_run_stays_sound;
@@ -40,12 +41,21 @@ pub fn a_frame_has_one_type_in_all_trees()
     ensures { (n : Machine) (m : Place → ℕ) (f g x : ℕ) (t u v w : PageType) → IsWhole n m f t → IsWhole n m g u → Leads m f t x v → Leads m g u x w → v ≡ w }
 {}
 
-/// A pin that is done, by a vCPU that had nothing in hand at first, as each has: in each run from sound words on which that vCPU's steps stand up to the
-/// last one of the pin, the frame was pinned as a table of that level at the moment behind this step, and all that it leads to validated.
+/// A pin that is done, by a vCPU that had nothing in hand at its first port `o`, as each has, and whose steps up to a later port `z` stand on a run from
+/// sound words: at the moment of that run behind the last step of the pin the frame was pinned as a table of that level, and all that it leads to validated.
 pub fn a_pin_that_is_done_is_whole_as_it_is_set()
-    ensures { (n : Machine) (opening : List ℕ) (log : List (ℕ × Step)) (b : State) (later : List Made) (o v w : PortValue) (d f level : ℕ) (answers : List Bool) →
-        SoundWords n opening → Run n (start n opening) log b → o.post.machine ≡ n → o.holdings ≡ empty → Came o v → (hand_of b.hands o.post.vcpu).steps ≡ later ++ w.holdings.steps →
-        1 ≤ level → Pinned v w d f level answers (Ok tt) → WasPinned n opening log f (level_type level) }
+    ensures { (n : Machine) (opening : List ℕ) (log : List (ℕ × Step)) (b : State) (o v w z : PortValue) (d f level : ℕ) (answers : List Bool) →
+        SoundWords n opening → Run n (start n opening) log b → o.post.machine ≡ n → o.holdings ≡ empty → (hand_of b.hands o.post.vcpu).steps ≡ z.holdings.steps →
+        Came o v → 1 ≤ level → Pinned v w d f level answers (Ok tt) → Came w z → WasPinned n opening log f (level_type level) }
+{
+    every_run_stays_sound();
+}
+
+/// So of each element of a list of `mmuext_op` that is a pin, by commands 0 to 3, and that a turn did.
+pub fn a_pin_in_a_list_is_whole_as_it_is_set()
+    ensures { (n : Machine) (opening : List ℕ) (log : List (ℕ × Step)) (b : State) (o v w z : PortValue) (d from k : ℕ) (awaited : Option ℕ) (list : List ExtOp) (op : ExtOp) (answers : List Bool) →
+        SoundWords n opening → Run n (start n opening) log b → o.post.machine ≡ n → o.holdings ≡ empty → (hand_of b.hands o.post.vcpu).steps ≡ z.holdings.steps →
+        Came o v → slice_get list k ≡ Some op → op.command < 4 → ExtFits d list from awaited k v w answers (Ok tt) → Came w z → WasPinned n opening log op.first (level_type (op.command + 1)) }
 {
     every_run_stays_sound();
 }
