@@ -1,6 +1,5 @@
 //! Generated traces (trace_gen), by their text.
-use std::alloc::{AllocError, Global};
-use std::test::Fail;
+use std::process::Abort;
 use trace_gen::generate;
 use trace_text::write_trace;
 
@@ -23,12 +22,15 @@ turn 0 8
 end
 ";
 
+// The trace of so many operations.
+fn written(rt: &(impl Abort + AllocGlobal), operations: u32) -> Vec<u8> {
+    let trace = generate(rt.alloc(), operations.clamp(1, 60_000)).expect(rt, "memory");
+    write_trace(rt.alloc(), &trace).expect(rt, "memory")
+}
+
 #[test]
-fn seven_operations_are_a_round_and_one_more(rt: HostRuntime) -> Result<(), Fail> {
-    let trace = generate(rt.alloc(), 7)?;
-    let text = write_trace(rt.alloc(), &trace)?;
-    assert_eq!(rt; text.as_slice(), SEVEN.as_bytes());
-    Ok(())
+fn seven_operations_are_a_round_and_one_more(rt: HostRuntime) {
+    assert!(rt; written(&rt, 7).as_slice() == SEVEN.as_bytes());
 }
 
 // How many operations, the last of them, and the turns.
@@ -48,22 +50,19 @@ const LAST: [(u32, &str, u32); 13] = [
     (60000, "mem 6 0 9999", 60001),
 ];
 
-fn written(alloc: Global, operations: u32) -> Result<Vec<u8>, AllocError> {
-    let trace = generate(alloc, operations.clamp(1, 60_000))?;
-    write_trace(alloc, &trace)
+// The last lines of a trace.
+fn end_of(rt: &(impl Abort + AllocGlobal), last: &str, turns: u32) -> String {
+    format!(in rt.alloc(); "\nop 0 {last}\nturn 0 {turns}\nend\n").expect(rt, "memory")
 }
 
 #[test]
-fn numbers_begin_again_behind_the_last_frame_and_the_last_entry(
-    rt: HostRuntime,
-) -> Result<(), Fail> {
+fn numbers_begin_again_behind_the_last_frame_and_the_last_entry(rt: HostRuntime) {
     for (operations, last, turns) in LAST.iter() {
-        let text = written(rt.alloc(), *operations)?;
-        let want = format!(in rt.alloc(); "\nop 0 {last}\nturn 0 {turns}\nend\n")?;
+        let text = written(&rt, *operations);
+        let end = end_of(&rt, last, *turns);
         assert!(rt;
-            text.as_slice().ends_with(want.as_bytes()),
+            text.as_slice().ends_with(end.as_bytes()),
             "of {operations}"
         );
     }
-    Ok(())
 }

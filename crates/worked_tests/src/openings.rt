@@ -1,67 +1,52 @@
 //! Opening words (machine_build): a trace of 2 domains, 1 vCPU and 65 frames, so that the map of free frames has 2 words.
-ghost use Rattle.std.specs.Prelude.{IfOk};
-ghost use Rattle.trace_text.specs.WellFormed.{IsWellFormed};
-
-use crate::machines::small_layout;
+use crate::sparse::word_at;
 use machine_build::opening;
-use std::alloc::{AllocError, Global};
-use std::test::Fail;
-use trace_text::{CellList, CellRun, Own, OwnList, ScriptList, Trace, TurnList};
-use xp_words::Script;
+use sparse_words::SparseWords;
+use std::process::Abort;
+use trace_text::read_trace;
 
-fn small_trace(alloc: Global) -> Result<Trace, AllocError>
-    ensures { IfOk result (λ t. IsWellFormed t) }
-{
-    let first = Own {
-        domain: 0,
-        first: 4,
-        count: 60,
-    };
-    let second = Own {
-        domain: 1,
-        first: 0,
-        count: 3,
-    };
-    let low = CellRun {
-        frame: 64,
-        first: 0,
-        count: 512,
-        value: 7,
-    };
-    let high = CellRun {
-        frame: 64,
-        first: 500,
-        count: 2,
-        value: 9,
-    };
-    Ok(Trace {
-        version: 2,
-        layout: small_layout(),
-        clock: 12,
-        owned: OwnList::new(vec![in alloc; first, second]?),
-        cells: CellList::new(vec![in alloc; low, high]?),
-        scripts: ScriptList::new(vec![in alloc; Script::new(vec![in alloc]?)]?),
-        turns: TurnList::new(vec![in alloc]?),
-    })
+const TRACE: &str = "xen-pv-trace 2
+frames 65
+limit 2
+clock 12
+domain 65
+domain 5
+priv 0 1
+vcpu 1
+own 0 4 60
+own 1 0 3
+cell 64 0 512 7
+cell 64 500 2 9
+end
+";
+
+// Places, the words with which they open, and what these are.
+const WORDS: [(u32, u64, &str); 13] = [
+    (0, 12, "the clock"),
+    (1, 60, "pages of domain 0"),
+    (3, 3, "pages of domain 1"),
+    (10, 12, "flushed"),
+    (43, 0x8000000180000001, "refs of frame 0"),
+    (1588, 0, "refs of frame 3"),
+    (33005, u64::MAX, "m2p of frame 64"),
+    (33505, 7, "cell 499"),
+    (33506, 9, "cell 500"),
+    (33508, 7, "cell 502"),
+    (33518, 8, "frames 0 to 63"),
+    (33519, 1, "frame 64"),
+    (33520, 0x20002, "privileges of domain 0"),
+];
+
+fn opened(rt: &(impl Abort + AllocGlobal)) -> SparseWords {
+    let trace = read_trace(rt.alloc(), TRACE.as_bytes()).expect(rt, "a trace");
+    opening(rt.alloc(), &trace).expect(rt, "memory")
 }
 
 #[test]
-fn a_small_machine_opens_with_the_words_of_its_trace(rt: HostRuntime) -> Result<(), Fail> {
-    let trace = small_trace(rt.alloc())?;
-    let words = opening(rt.alloc(), &trace)?;
-    assert_eq!(rt; words.len(), 33522);
-    assert_eq!(rt; words.get(0), 12, "the clock");
-    assert_eq!(rt; words.get(1), 60, "pages of domain 0");
-    assert_eq!(rt; words.get(3), 3, "pages of domain 1");
-    assert_eq!(rt; words.get(10), 12, "flushed");
-    assert_eq!(rt; words.get(43), 0x8000000180000001, "refs of frame 0");
-    assert_eq!(rt; words.get(1588), 0, "refs of frame 3");
-    assert_eq!(rt; words.get(33005), u64::MAX, "m2p of frame 64");
-    assert_eq!(rt; words.get(33505), 7, "cell 499");
-    assert_eq!(rt; words.get(33506), 9, "cell 500");
-    assert_eq!(rt; words.get(33508), 7, "cell 502");
-    assert_eq!(rt; words.get(33518), 8, "frames 0 to 63");
-    assert_eq!(rt; words.get(33519), 1, "frame 64");
-    assert_eq!(rt; words.get(33520), 0x20002, "privileges of domain 0");
-    Ok(())
+fn a_small_machine_opens_with_the_words_of_its_trace(rt: HostRuntime) {
+    let words = opened(&rt);
+    assert!(rt; words.len() == 33522);
+    for (place, word, what) in WORDS.iter() {
+        assert!(rt; word_at(&words, *place) == Some(*word), "{what}");
+    }
 }

@@ -1,9 +1,10 @@
 //! Traces (trace_text): examples, worked by hand from the table of lines.
 
-use std::alloc::{AllocError, Global};
-use std::test::Fail;
+use std::alloc::AllocError;
+use std::process::Abort;
 use trace_lines::{Cause, What};
-use trace_text::{TraceFault, read_trace, write_trace};
+use trace_text::{Trace, TraceFault, read_trace, write_trace};
+use xp_words::{Layout, Script};
 
 // Nine lines with which a trace may begin.
 const HEAD: &str =
@@ -109,70 +110,82 @@ fn what_word(what: What) -> &'static str {
     }
 }
 
-fn answer(alloc: Global, bytes: &[u8]) -> Result<String, AllocError> {
-    match read_trace(alloc, bytes) {
-        Ok(_) => format!(in alloc; "read"),
-        Err(TraceFault::Bad { line, cause }) => format!(in alloc; "{line} {}", cause_word(cause)),
-        Err(TraceFault::Large { line, what, number }) => {
-            format!(in alloc; "{line} {} {number}", what_word(what))
+fn answer(rt: &(impl Abort + AllocGlobal), bytes: &[u8]) -> String {
+    let told = match read_trace(rt.alloc(), bytes).err() {
+        None => format!(in rt.alloc(); "read"),
+        Some(TraceFault::Bad { line, cause }) => {
+            format!(in rt.alloc(); "{line} {}", cause_word(cause))
         }
-        Err(TraceFault::Memory) => Err(AllocError),
-    }
+        Some(TraceFault::Large { line, what, number }) => {
+            format!(in rt.alloc(); "{line} {} {number}", what_word(what))
+        }
+        Some(TraceFault::Memory) => Err(AllocError),
+    };
+    told.expect(rt, "memory")
 }
 
-fn spelled(alloc: Global, text: &str) -> Result<String, AllocError> {
-    let mut whole = String::new(alloc);
-    for c in text.chars() {
-        match c {
-            '~' => whole.push_str(HEAD)?,
-            '|' => whole.push('\n')?,
-            c => whole.push(c)?,
-        }
-    }
-    Ok(whole)
+fn spelled(rt: &(impl Abort + AllocGlobal), text: &str) -> String {
+    let whole = text.replace(rt.alloc(), '~', HEAD).expect(rt, "memory");
+    whole
+        .as_str()
+        .replace(rt.alloc(), '|', "\n")
+        .expect(rt, "memory")
+}
+
+// Whether a row's text is answered as the row says.
+fn is_answered(rt: &(impl Abort + AllocGlobal), row: &str) -> bool {
+    let Some((want, text)) = row.split_once(':') else {
+        return false;
+    };
+    answer(rt, spelled(rt, text).as_bytes()).as_str() == want
 }
 
 #[test]
-fn each_text_is_answered_by_its_first_fault(rt: HostRuntime) -> Result<(), Fail> {
+fn each_text_is_answered_by_its_first_fault(rt: HostRuntime) {
     for row in CASES.lines() {
-        let (want, text) = row.split_once(':').ok_or("a row has a colon")?;
-        let text = spelled(rt.alloc(), text)?;
-        let told = answer(rt.alloc(), text.as_bytes())?;
-        assert_eq!(rt; told.as_str(), want, "at {row}");
+        assert!(rt; is_answered(&rt, row), "at {row}");
     }
-    Ok(())
 }
 
-// What is answered at the line that is one too many: the lines before, that line, how many it may be.
-const LONG: &str = "19 domains 17:xen-pv-trace 1|frames 1|:domain 0|:16
-20 vcpus 17:xen-pv-trace 1|frames 1|domain 0|:vcpu 0|:16
-21 destroys 17:xen-pv-trace 1|frames 1|domain 0|vcpu 0|:op 0 destroy 9|:16
-65541 ops 65537:xen-pv-trace 1|frames 1|domain 0|vcpu 0|:op 0 ldt 9|:65536
-10 numbers 8193:~op 0 gdt 1: 2:8192";
+// What is answered at the line that is one too many: the lines before, that line, and how many it is then.
+const LONG: [(&str, &str, &str, usize); 5] = [
+    ("19 domains 17", "xen-pv-trace 1|frames 1|", "domain 0|", 17),
+    (
+        "20 vcpus 17",
+        "xen-pv-trace 1|frames 1|domain 0|",
+        "vcpu 0|",
+        17,
+    ),
+    (
+        "21 destroys 17",
+        "xen-pv-trace 1|frames 1|domain 0|vcpu 0|",
+        "op 0 destroy 9|",
+        17,
+    ),
+    (
+        "65541 ops 65537",
+        "xen-pv-trace 1|frames 1|domain 0|vcpu 0|",
+        "op 0 ldt 9|",
+        65537,
+    ),
+    ("10 numbers 8193", "~op 0 gdt 1", " 2", 8193),
+];
+
+// What is answered where that line stands so often.
+fn answer_to_many(rt: &(impl Abort + AllocGlobal), head: &str, each: &str, count: usize) -> String {
+    let many = each.repeat(rt.alloc(), count).expect(rt, "memory");
+    let text = format!(in rt.alloc(); "{head}{many}|").expect(rt, "memory");
+    answer(rt, spelled(rt, text.as_str()).as_bytes())
+}
 
 #[test]
-fn one_more_than_a_limit_is_too_large(rt: HostRuntime) -> Result<(), Fail> {
-    let alloc = rt.alloc();
-    for row in LONG.lines() {
-        let (want, rest) = row.split_once(':').ok_or("a row has three colons")?;
-        let (head, rest) = rest.split_once(':').ok_or("a row has three colons")?;
-        let (each, most) = rest.split_once(':').ok_or("a row has three colons")?;
-        let each = spelled(alloc, each)?;
-        let mut text = spelled(alloc, head)?;
-        for _ in 0..most.parse::<u32>()? {
-            text.push_str(each.as_str())?;
-        }
-        let within = format!(in alloc; "{text}\n")?;
-        assert_ne!(rt;
-            answer(alloc, within.as_bytes())?.as_str(),
-            want,
-            "within {row}"
-        );
-        text.push_str(each.as_str())?;
-        text.push_str("\n")?;
-        assert_eq!(rt; answer(alloc, text.as_bytes())?.as_str(), want, "at {row}");
+fn one_more_than_a_limit_is_too_large(rt: HostRuntime) {
+    for (want, head, each, many) in LONG.iter() {
+        let within = answer_to_many(&rt, head, each, many.saturating_sub(1));
+        let above = answer_to_many(&rt, head, each, *many);
+        assert!(rt; within.as_str() != *want, "within {want}");
+        assert!(rt; above.as_str() == *want, "at {want}");
     }
-    Ok(())
 }
 
 // One line of each form, some out of the order in which they are written.
@@ -228,45 +241,62 @@ turn 1 0
 end
 ";
 
-#[test]
-fn a_trace_with_each_form_is_read_and_written(rt: HostRuntime) -> Result<(), Fail> {
-    let trace = read_trace(rt.alloc(), TRACE.as_bytes())?;
-    assert_eq!(rt; trace.version, 2);
-    assert_eq!(rt; trace.clock, 5);
-    assert_eq!(rt; trace.layout.frames, 16);
-    assert_eq!(rt; trace.layout.limit, 9);
-    assert_eq!(rt;
-        trace.layout.page_limit.as_slice(),
-        [8, 0, 65536].as_slice()
-    );
-    assert_eq!(rt; trace.layout.privilege.as_slice(), [2, 0, 3].as_slice());
-    assert_eq!(rt; trace.layout.vcpu_domain.as_slice(), [2, 0].as_slice());
-    assert_eq!(rt; trace.owned.as_slice().len(), 2);
-    assert_eq!(rt; trace.cells.as_slice().len(), 2);
-    assert_eq!(rt; trace.turns.as_slice().len(), 2);
-    let scripts = trace.scripts.as_slice();
-    assert_eq!(rt; scripts.len(), 2);
-    assert_eq!(rt; scripts[0].len(), 1);
-    assert_eq!(rt; scripts[1].len(), 2);
-    let text = write_trace(rt.alloc(), &trace)?;
-    assert_eq!(rt; text.as_slice(), WRITTEN.as_bytes());
-    Ok(())
+// The version, the clock, the frames and the count limit.
+fn numbers(trace: &Trace) -> [u64; 4] {
+    let layout = &trace.layout;
+    [
+        u64::from(trace.version),
+        trace.clock,
+        u64::from(layout.frames),
+        u64::from(layout.limit),
+    ]
+}
+
+// Whether these are the limits and privileges of the domains, and the domains of the vCPUs.
+fn are_domains(layout: &Layout, limits: &[u32], masks: &[u16], domains: &[u16]) -> bool {
+    (layout.page_limit.as_slice() == limits)
+        & (layout.privilege.as_slice() == masks)
+        & (layout.vcpu_domain.as_slice() == domains)
+}
+
+// How many runs of frames, of cells and of turns there are.
+fn runs(trace: &Trace) -> [usize; 3] {
+    [trace.owned.len(), trace.cells.len(), trace.turns.len()]
+}
+
+// How many operations each of two scripts has.
+fn lengths(scripts: &[Script]) -> Option<(usize, usize)> {
+    match scripts {
+        [first, second] => Some((first.len(), second.len())),
+        _ => None,
+    }
 }
 
 #[test]
-fn a_text_cut_inside_a_line_ends_there(rt: HostRuntime) -> Result<(), Fail> {
+fn a_trace_with_each_form_is_read_and_written(rt: HostRuntime) {
+    let trace = read_trace(rt.alloc(), TRACE.as_bytes()).expect(&rt, "a trace");
+    assert!(rt; numbers(&trace) == [2, 5, 16, 9]);
+    assert!(rt; are_domains(&trace.layout, &[8, 0, 65536], &[2, 0, 3], &[2, 0]));
+    assert!(rt; runs(&trace) == [2, 2, 2]);
+    assert!(rt; lengths(trace.scripts.as_slice()) == Some((1, 2)));
+    let text = write_trace(rt.alloc(), &trace).expect(&rt, "memory");
+    assert!(rt; text.as_slice() == WRITTEN.as_bytes());
+}
+
+// Whether a text ends where that line is not whole.
+fn ends_in(rt: &(impl Abort + AllocGlobal), text: &str, line: u32) -> bool {
+    let want = format!(in rt.alloc(); "{line} end").expect(rt, "memory");
+    answer(rt, text.as_bytes()).as_str() == want.as_str()
+}
+
+#[test]
+fn a_text_cut_inside_a_line_ends_there(rt: HostRuntime) {
     let mut text = String::new(rt.alloc());
     let mut line = 1u32;
     for next in HEAD.lines() {
-        text.push_str(next)?;
-        let want = format!(in rt.alloc(); "{line} end")?;
-        assert_eq!(rt;
-            answer(rt.alloc(), text.as_bytes())?.as_str(),
-            want.as_str(),
-            "in {next}"
-        );
-        text.push('\n')?;
+        text.push_str(next).expect(&rt, "memory");
+        assert!(rt; ends_in(&rt, text.as_str(), line), "in {next}");
+        text.push('\n').expect(&rt, "memory");
         line = line.saturating_add(1);
     }
-    Ok(())
 }

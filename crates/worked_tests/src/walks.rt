@@ -3,7 +3,6 @@ ghost use Rattle.xp_words.specs.Machine.{IsMachine};
 
 use crate::machines::hundred_frames;
 use own_cache::{Translations, touched};
-use std::test::Fail;
 use xp_board::{Act, Item, Mark, Step, StepKind};
 use xp_words::Layout;
 
@@ -101,10 +100,25 @@ fn entry(bits: u64, frame: u32) -> u64 {
 // A walk through tables 10, 20, 30 and 40, by entries 0, 0, 0 and `index`. All are accessed; the last has those bits.
 fn walk(t: &mut Translations, layout: &Layout, write: bool, index: u16, last: u64) -> bool {
     begin(t, layout, 0, write, 11)
-        && load(t, layout, 10, 0, entry(ACCESSED, 20))
-        && load(t, layout, 20, 0, entry(ACCESSED, 30))
-        && load(t, layout, 30, 0, entry(ACCESSED, 40))
-        && load(t, layout, 40, index, last)
+        & load(t, layout, 10, 0, entry(ACCESSED, 20))
+        & load(t, layout, 20, 0, entry(ACCESSED, 30))
+        & load(t, layout, 30, 0, entry(ACCESSED, 40))
+        & load(t, layout, 40, index, last)
+}
+
+// The walk begins, and sets the bits of entry `index` of table 10, which it finds as it is said.
+fn set_first(
+    t: &mut Translations,
+    layout: &Layout,
+    base: u32,
+    write: bool,
+    index: u16,
+    found: u64,
+) -> bool {
+    let first = entry(FRESH, 20);
+    begin(t, layout, base, write, 11)
+        & load(t, layout, 10, index, first)
+        & touch(t, layout, index, first, found)
 }
 
 // The frame to which a page of the kernel is translated.
@@ -112,21 +126,24 @@ fn frame_of(t: &Translations, page: u64) -> Option<u32> {
     t.cached(false, page).map(|item| item.frame)
 }
 
+// Whether that frame may be written, and whether it was.
+fn marks_of(t: &Translations, page: u64) -> Option<(bool, bool)> {
+    t.cached(false, page)
+        .map(|item| (item.writable, item.dirty))
+}
+
 // Entries 1, 2, 3 and 4 of the four tables are those of the address 0x80_8060_4000.
 #[test]
-fn a_walk_for_a_write_sets_its_bits_and_makes_an_item(rt: HostRuntime) -> Result<(), Fail> {
+fn a_walk_for_a_write_sets_its_bits_and_makes_an_item(rt: HostRuntime) {
     let layout = hundred_frames();
-    let mut t = Translations::new(rt.alloc())?;
-    let first = entry(FRESH, 20);
+    let mut t = Translations::new(rt.alloc()).expect(&rt, "memory");
     let last = entry(ACCESSED, 50);
     let page = 0x80_8060_4000 >> 12;
-    assert!(rt; begin(&mut t, &layout, 1, true, 11));
-    assert!(rt; load(&mut t, &layout, 10, 1, first));
-    assert!(rt; touch(&mut t, &layout, 1, first, first));
-    assert!(rt; load(&mut t, &layout, 20, 2, entry(ACCESSED, 30)));
-    assert!(rt; load(&mut t, &layout, 30, 3, entry(ACCESSED, 40)));
-    assert!(rt; load(&mut t, &layout, 40, 4, last));
-    assert!(rt; t.cached(true, page).is_none());
+    let loaded = set_first(&mut t, &layout, 1, true, 1, entry(FRESH, 20))
+        & load(&mut t, &layout, 20, 2, entry(ACCESSED, 30))
+        & load(&mut t, &layout, 30, 3, entry(ACCESSED, 40))
+        & load(&mut t, &layout, 40, 4, last);
+    assert!(rt; (loaded, t.cached(true, page)) == (true, None));
     assert!(rt; touch(&mut t, &layout, 4, last, last));
     let item = Item {
         user: true,
@@ -136,77 +153,72 @@ fn a_walk_for_a_write_sets_its_bits_and_makes_an_item(rt: HostRuntime) -> Result
         dirty: true,
     };
     assert!(rt; t.cached(true, page) == Some(item));
-    assert!(rt; t.cached(false, page).is_none());
-    assert!(rt; t.cached(true, page + 1).is_none());
-    Ok(())
+    assert!(rt; (t.cached(false, page), t.cached(true, page + 1)) == (None, None));
 }
 
 // The third page's frame is not one of the machine's, and the fourth has no entry.
 #[test]
-fn an_item_says_what_its_entries_allow(rt: HostRuntime) -> Result<(), Fail> {
+fn an_item_says_what_its_entries_allow(rt: HostRuntime) {
     let layout = hundred_frames();
-    let mut t = Translations::new(rt.alloc())?;
-    assert!(rt; walk(&mut t, &layout, true, 0, entry(FIXED, 50)));
-    assert!(rt; walk(&mut t, &layout, false, 1, entry(DIRTY, 51)));
-    assert!(rt; walk(&mut t, &layout, false, 2, entry(ACCESSED, 100)));
-    assert!(rt; walk(&mut t, &layout, false, 3, 0));
-    let fixed = t.cached(false, 0).ok_or("none")?;
-    assert!(rt; (fixed.frame, fixed.writable, fixed.dirty) == (50, false, false));
-    let dirty = t.cached(false, 1).ok_or("none")?;
-    assert!(rt; (dirty.frame, dirty.writable, dirty.dirty) == (51, true, true));
-    assert!(rt; frame_of(&t, 2).is_none() && frame_of(&t, 3).is_none());
-    Ok(())
+    let mut t = Translations::new(rt.alloc()).expect(&rt, "memory");
+    let walked = walk(&mut t, &layout, true, 0, entry(FIXED, 50))
+        & walk(&mut t, &layout, false, 1, entry(DIRTY, 51))
+        & walk(&mut t, &layout, false, 2, entry(ACCESSED, 100))
+        & walk(&mut t, &layout, false, 3, 0);
+    assert!(rt; walked);
+    assert!(rt; [frame_of(&t, 0), frame_of(&t, 1)] == [Some(50), Some(51)]);
+    assert!(rt; [marks_of(&t, 0), marks_of(&t, 1)] == [Some((false, false)), Some((true, true))]);
+    assert!(rt; [frame_of(&t, 2), frame_of(&t, 3)] == [None, None]);
 }
 
 #[test]
-fn a_lost_exchange_ends_the_walk(rt: HostRuntime) -> Result<(), Fail> {
+fn a_lost_exchange_ends_the_walk(rt: HostRuntime) {
     let layout = hundred_frames();
-    let mut t = Translations::new(rt.alloc())?;
-    let first = entry(FRESH, 20);
-    assert!(rt; begin(&mut t, &layout, 0, false, 11));
-    assert!(rt; load(&mut t, &layout, 10, 0, first));
-    assert!(rt; touch(&mut t, &layout, 0, first, entry(DIRTY, 20)));
+    let mut t = Translations::new(rt.alloc()).expect(&rt, "memory");
+    assert!(rt; set_first(&mut t, &layout, 0, false, 0, entry(DIRTY, 20)));
     assert!(rt; !load(&mut t, &layout, 20, 0, entry(ACCESSED, 30)));
-    Ok(())
 }
 
 #[test]
-fn a_forgotten_page_goes_and_at_a_flush_all_do(rt: HostRuntime) -> Result<(), Fail> {
+fn a_forgotten_page_goes_and_at_a_flush_all_do(rt: HostRuntime) {
     let layout = hundred_frames();
-    let mut t = Translations::new(rt.alloc())?;
-    assert!(rt; walk(&mut t, &layout, false, 0, entry(ACCESSED, 50)));
-    assert!(rt; walk(&mut t, &layout, false, 1, entry(ACCESSED, 51)));
-    assert!(rt; walk(&mut t, &layout, false, 2, entry(ACCESSED, 52)));
+    let mut t = Translations::new(rt.alloc()).expect(&rt, "memory");
+    let walked = walk(&mut t, &layout, false, 0, entry(ACCESSED, 50))
+        & walk(&mut t, &layout, false, 1, entry(ACCESSED, 51))
+        & walk(&mut t, &layout, false, 2, entry(ACCESSED, 52));
+    assert!(rt; walked);
     forget(&mut t, &layout, 1);
-    assert!(rt; (frame_of(&t, 0), frame_of(&t, 1), frame_of(&t, 2)) == (Some(50), None, Some(52)));
+    assert!(rt; [frame_of(&t, 0), frame_of(&t, 1), frame_of(&t, 2)] == [Some(50), None, Some(52)]);
     flush(&mut t, &layout);
-    assert!(rt; frame_of(&t, 0).is_none() && frame_of(&t, 2).is_none());
-    Ok(())
+    assert!(rt; [frame_of(&t, 0), frame_of(&t, 2)] == [None, None]);
 }
 
 #[test]
-fn the_newest_64_items_are_kept(rt: HostRuntime) -> Result<(), Fail> {
+fn the_newest_64_items_are_kept(rt: HostRuntime) {
     let layout = hundred_frames();
-    let mut t = Translations::new(rt.alloc())?;
+    let mut t = Translations::new(rt.alloc()).expect(&rt, "memory");
+    let mut walked = true;
     for index in 0..65 {
-        assert!(rt; walk(&mut t, &layout, false, index, entry(ACCESSED, 60)));
+        walked &= walk(&mut t, &layout, false, index, entry(ACCESSED, 60));
     }
-    assert!(rt; frame_of(&t, 0).is_none());
-    assert!(rt; frame_of(&t, 1) == Some(60) && frame_of(&t, 64) == Some(60));
+    assert!(rt; walked);
+    assert!(rt; [frame_of(&t, 0), frame_of(&t, 1), frame_of(&t, 64)] == [None, Some(60), Some(60)]);
     assert!(rt; walk(&mut t, &layout, false, 1, entry(ACCESSED, 61)));
     assert!(rt; frame_of(&t, 1) == Some(61));
-    Ok(())
 }
+
+// Whether a walk writes and may write, the level, the word, and the word with its bits.
+const TOUCHED: [(bool, bool, u8, u64, u64); 5] = [
+    (false, true, 1, FRESH, ACCESSED),
+    (true, true, 1, FRESH, DIRTY),
+    (true, false, 1, FRESH, ACCESSED),
+    (true, true, 2, FRESH, ACCESSED),
+    (true, true, 1, DIRTY, DIRTY),
+];
 
 #[test]
 fn bits_5_and_6_are_set_where_the_walk_needs_them(rt: HostRuntime) {
-    for (write, writable, level, word, want) in [
-        (false, true, 1, FRESH, ACCESSED),
-        (true, true, 1, FRESH, DIRTY),
-        (true, false, 1, FRESH, ACCESSED),
-        (true, true, 2, FRESH, ACCESSED),
-        (true, true, 1, DIRTY, DIRTY),
-    ] {
-        assert_eq!(rt; touched(write, writable, level, word), want);
+    for (write, writable, level, word, want) in TOUCHED.iter() {
+        assert!(rt; touched(*write, *writable, *level, *word) == *want);
     }
 }
