@@ -22,12 +22,10 @@ use Rattle.step_maker.proofs.Coming.{ran_post}
 use Rattle.step_maker.proofs.Noting.{made_now, moves_steps}
 use Rattle.sound_rule.proofs.OwnRun.{RunsSound, steps_after}
 use Rattle.shared_board.proofs.Opened.{all_empty}
+use Rattle.whole_trees.specs.Whole.{IsToldBySteps}
 use Rattle.whole_trees.proofs.Moments.{state}
 
 -- ---- at a port
-abbrev pub IsToldBySteps : Machine → ℕ → Holdings → Type 0
-IsToldBySteps n s h = h ≡ hands_of n s h.steps
-
 one_told : (v w : PortValue) (p : Place) (a : Act) (kind : StepKind) (mark : Option Mark) (found : ℕ) → Moves v w p a kind mark found → IsToldBySteps v.post.machine v.post.vcpu v.holdings → IsToldBySteps v.post.machine v.post.vcpu w.holdings
 unfolding hands_of
 one_told v w p a kind mark found m was =
@@ -47,10 +45,14 @@ ran_told v w (m ∷ ms) ran was =
     subst (λ (o : Post). IsToldBySteps o.machine o.vcpu w.holdings) at
     (one_told u w m.place m.act m.kind m.mark m.found ran.2.moves (subst (λ (o : Post). IsToldBySteps o.machine o.vcpu u.holdings) (sym at) (ran_told v u ms ran.1 was)))
 
-pub came_told : (v w : PortValue) → v.holdings ≡ empty → Came v w → IsToldBySteps v.post.machine v.post.vcpu w.holdings
-unfolding Came hands_of
-came_told v w none came =
-    ran_told v w came.0 came.1 (none ∙ sym (ap (λ (h : Holdings). hands_of v.post.machine v.post.vcpu h.steps) none))
+-- a port behind it is told by its steps, too
+pub told_on : (v w : PortValue) → Came v w → IsToldBySteps v.post.machine v.post.vcpu v.holdings → IsToldBySteps v.post.machine v.post.vcpu w.holdings
+unfolding Came
+told_on v w came was = ran_told v w came.0 came.1 was
+
+pub none_told : (n : Machine) (s : ℕ) (h : Holdings) → h ≡ empty → IsToldBySteps n s h
+unfolding hands_of
+none_told n s h none = none ∙ sym (ap (λ (u : Holdings). hands_of n s u.steps) none)
 
 -- steps behind others
 ran_more : (v w : PortValue) (ms : List Moment) → Ran v ms w → (more : List Made) × (w.holdings.steps ≡ more ++ v.holdings.steps)

@@ -34,8 +34,8 @@ use Rattle.table_words.specs.Pins.{pinned_kind}
 use Rattle.table_entries.proofs.Shared.{gave_came, ref_came}
 use Rattle.course_laws.proofs.Stopping.{acquired_came}
 use Rattle.mmuext_ops.specs.Course.{PinEnds, Pinned, SawKind, SetsPin, acquired, lost, pinned, pinned_before, raced, refused, seen, unreferred}
-use Rattle.whole_trees.specs.Whole.{IsWhole, WasPinned}
-use Rattle.whole_trees.proofs.Hands.{came_more, came_told, run_told}
+use Rattle.whole_trees.specs.Whole.{IsToldBySteps, IsWhole, WasPinned}
+use Rattle.whole_trees.proofs.Hands.{came_more, run_told, told_on}
 use Rattle.whole_trees.proofs.Moments.{Stood, state, stood}
 use Rattle.whole_trees.proofs.Tops.{pinned_whole}
 use Rattle.whole_trees.proofs.Typing.{HasTyped, acquired_has, as_typed}
@@ -84,10 +84,10 @@ first_typed m f t h has each =
     let first = (subst (λ xs. EachOf (λ e. HasType m e.frame e.kind) xs) has.typed each).0 in
     subst (λ g. HasType m g (Some t)) has.frame (subst (λ k. HasType m has.newest.frame k) has.kind first)
 
-module _ (n : Machine) (opening : List ℕ) (log : List (ℕ × Step)) (b : State) (later : List Made) (o v w : PortValue) (f : ℕ) (t : PageType) (sound : SoundWords n opening) (runs : RunsSound) (run : Run n (start n opening) log b)
-    (machine : o.post.machine ≡ n) (none : o.holdings ≡ empty) (came : Came o v) (is : (hand_of b.hands o.post.vcpu).steps ≡ later ++ w.holdings.steps) (set : SetsIt v w f t) where
+module _ (n : Machine) (opening : List ℕ) (log : List (ℕ × Step)) (b : State) (later : List Made) (v w : PortValue) (f : ℕ) (t : PageType) (sound : SoundWords n opening) (runs : RunsSound) (run : Run n (start n opening) log b)
+    (machine : v.post.machine ≡ n) (told : IsToldBySteps n v.post.vcpu v.holdings) (is : (hand_of b.hands v.post.vcpu).steps ≡ later ++ w.holdings.steps) (set : SetsIt v w f t) where
   abbrev s : ℕ
-  s = o.post.vcpu
+  s = v.post.vcpu
 
   abbrev k : KindWord
   k = kind_fields set.word
@@ -98,11 +98,13 @@ module _ (n : Machine) (opening : List ℕ) (log : List (ℕ × Step)) (b : Stat
   abbrev step : Step
   step = step_at n (Kind f) (Cas set.word new) kinds.Kind None
 
-  to_it : Came o set.from
-  to_it = came_trans o v set.from came set.before
-
   own : set.from.post.machine ≡ n
-  own = ap (λ (q : Post). q.machine) (came_post o set.from to_it) ∙ machine
+  own = ap (λ (q : Post). q.machine) (came_post v set.from set.before) ∙ machine
+
+  told_from : IsToldBySteps n s set.from.holdings
+  told_from =
+      subst (λ m. IsToldBySteps m s set.from.holdings) machine
+      (told_on v set.from set.before (subst (λ m. IsToldBySteps m s v.holdings) (sym machine) told))
 
   steps : w.holdings.steps ≡ made_now step set.word ∷ set.from.holdings.steps
   steps =
@@ -128,7 +130,7 @@ module _ (n : Machine) (opening : List ℕ) (log : List (ℕ × Step)) (b : Stat
   hand_before : hand_of there.before.hands s ≡ set.from.holdings
   hand_before =
       run_told n opening s sound runs there.before there.older there.run ∙ ap (λ xs. hands_of n s xs) there.steps
-      ∙ sym (subst (λ m. set.from.holdings ≡ hands_of m s set.from.holdings.steps) machine (came_told o set.from none to_it))
+      ∙ sym told_from
 
   found_before : word_at n there.before (Kind f) ≡ set.word
   found_before = ap (word_at n there.before) (sym is_there) ∙ there.found
@@ -167,9 +169,9 @@ module _ (n : Machine) (opening : List ℕ) (log : List (ℕ × Step)) (b : Stat
         whole = subst (λ u. IsWhole n (word_at n moment) f u) typed_now (pinned_whole n (word_at n moment) (hand_of moment.hands) (state n opening s sound runs moment ((s, step) ∷ there.older) behind).sound f on).1;
       }
 
-pub pin_was_set : RunsSound → (n : Machine) (opening : List ℕ) (log : List (ℕ × Step)) (b : State) (o v w z : PortValue) (d f level : ℕ) (answers : List Bool) →
-    SoundWords n opening → Run n (start n opening) log b → o.post.machine ≡ n → o.holdings ≡ empty → (hand_of b.hands o.post.vcpu).steps ≡ z.holdings.steps →
-    Came o v → 1 ≤ level → Pinned v w d f level answers (Ok tt) → Came w z → WasPinned n opening log f (level_type level)
-pin_was_set runs n opening log b o v w z d f level answers sound run machine none is came table pin goes =
+pub pin_was_set : RunsSound → (n : Machine) (opening : List ℕ) (log : List (ℕ × Step)) (b : State) (v w z : PortValue) (d f level : ℕ) (answers : List Bool) →
+    SoundWords n opening → Run n (start n opening) log b → v.post.machine ≡ n → IsToldBySteps n v.post.vcpu v.holdings → (hand_of b.hands v.post.vcpu).steps ≡ z.holdings.steps →
+    1 ≤ level → Pinned v w d f level answers (Ok tt) → Came w z → WasPinned n opening log f (level_type level)
+pin_was_set runs n opening log b v w z d f level answers sound run machine told is table pin goes =
     let more = came_more w z goes in
-    was_pinned n opening log b more.0 o v w f (level_type level) sound runs run machine none came (is ∙ more.1) (set_by_pin v w d f level answers (Ok tt) table pin refl)
+    was_pinned n opening log b more.0 v w f (level_type level) sound runs run machine told (is ∙ more.1) (set_by_pin v w d f level answers (Ok tt) table pin refl)

@@ -9,7 +9,9 @@ use Rattle.xp_words.specs.Entries.{demand_at}
 use Rattle.xp_words.specs.Machine.{Machine}
 use Rattle.xp_words.specs.PageTypes.{is_table}
 use Rattle.xp_words.specs.Places.{sizes_of}
+use Rattle.xp_board.specs.declared.holdings.Holdings.{Holdings}
 use Rattle.xp_board.specs.declared.step.Step.{Step}
+use Rattle.xp_board.specs.After.{hands_of}
 use Rattle.xp_board.specs.Lawful.{IsCountedAs}
 use Rattle.xp_board.specs.Readings.{domain_of, kind_at, owner_of, ref_count}
 use Rattle.xp_board.specs.Recorded.{names}
@@ -39,6 +41,10 @@ pub record IsWhole (n : Machine) (m : Place → ℕ) (f : ℕ) (t : PageType) : 
 pub record AllWhole (n : Machine) (m : Place → ℕ) : Type 0 where
   pub pinned : (f : ℕ) → IsTrue (kind_at m f).pinned → IsTrue (is_table (kind_at m f).kind) × IsWhole n m f (kind_at m f).kind
   pub bases : (v k f : ℕ) → v < (sizes_of n).vcpus → k < 2 → m (Vcpu v k) ≡ f + 1 → (owner_of (m (Refs f)) ≡ Some (domain_of n v)) × IsWhole n m f L4
+
+-- What vCPU s holds is told by its own steps, from nothing on, as on each run.
+abbrev pub IsToldBySteps : Machine → ℕ → Holdings → Type 0
+IsToldBySteps n s h = h ≡ hands_of n s h.steps
 
 -- At some moment of a run from the opening words frame f is pinned with type t, and whole.
 pub record WasPinned (n : Machine) (opening : List ℕ) (log : List (ℕ × Step)) (f : ℕ) (t : PageType) : Type 0 where

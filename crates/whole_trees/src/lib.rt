@@ -9,7 +9,6 @@ ghost use Rattle.xp_words.specs.Machine.{Machine};
 ghost use Rattle.xp_words.specs.PageTypes.{is_table};
 ghost use Rattle.xp_board.specs.declared.holdings.Holdings.{Holdings};
 ghost use Rattle.xp_board.specs.declared.step.Step.{Step};
-ghost use Rattle.xp_board.specs.Hands.{empty};
 ghost use Rattle.xp_board.specs.Lawful.{IsCountedAs};
 ghost use Rattle.xp_board.specs.Readings.{kind_at};
 ghost use Rattle.xp_board.specs.Runs.{Run, State, start, word_at};
@@ -19,7 +18,7 @@ ghost use Rattle.step_maker.specs.Moves.{Came};
 ghost use Rattle.partial_state.specs.Levels.{level_type};
 ghost use Rattle.mmuext_ops.specs.Course.{Pinned};
 ghost use Rattle.vcpu_turn.specs.Ext.{ExtFits};
-ghost use Rattle.whole_trees.specs.Whole.{AllWhole, IsWhole, Leads, WasPinned};
+ghost use Rattle.whole_trees.specs.Whole.{AllWhole, IsToldBySteps, IsWhole, Leads, WasPinned};
 
 use sound_rule::every_run_stays_sound;
 
@@ -41,21 +40,21 @@ pub fn a_frame_has_one_type_in_all_trees()
     ensures { (n : Machine) (m : Place → ℕ) (f g x : ℕ) (t u v w : PageType) → IsWhole n m f t → IsWhole n m g u → Leads m f t x v → Leads m g u x w → v ≡ w }
 {}
 
-/// A pin that is done, by a vCPU that had nothing in hand at its first port `o`, as each has, and whose steps up to a later port `z` stand on a run from
+/// A pin that is done, from port `v` to port `w` of a vCPU that holds what its own steps tell, and whose steps up to a later port `z` stand on a run from
 /// sound words: at the moment of that run behind the last step of the pin the frame was pinned as a table of that level, and all that it leads to validated.
 pub fn a_pin_that_is_done_is_whole_as_it_is_set()
-    ensures { (n : Machine) (opening : List ℕ) (log : List (ℕ × Step)) (b : State) (o v w z : PortValue) (d f level : ℕ) (answers : List Bool) →
-        SoundWords n opening → Run n (start n opening) log b → o.post.machine ≡ n → o.holdings ≡ empty → (hand_of b.hands o.post.vcpu).steps ≡ z.holdings.steps →
-        Came o v → 1 ≤ level → Pinned v w d f level answers (Ok tt) → Came w z → WasPinned n opening log f (level_type level) }
+    ensures { (n : Machine) (opening : List ℕ) (log : List (ℕ × Step)) (b : State) (v w z : PortValue) (d f level : ℕ) (answers : List Bool) →
+        SoundWords n opening → Run n (start n opening) log b → v.post.machine ≡ n → IsToldBySteps n v.post.vcpu v.holdings → (hand_of b.hands v.post.vcpu).steps ≡ z.holdings.steps →
+        1 ≤ level → Pinned v w d f level answers (Ok tt) → Came w z → WasPinned n opening log f (level_type level) }
 {
     every_run_stays_sound();
 }
 
 /// So of each element of a list of `mmuext_op` that is a pin, by commands 0 to 3, and that a turn did.
 pub fn a_pin_in_a_list_is_whole_as_it_is_set()
-    ensures { (n : Machine) (opening : List ℕ) (log : List (ℕ × Step)) (b : State) (o v w z : PortValue) (d from k : ℕ) (awaited : Option ℕ) (list : List ExtOp) (op : ExtOp) (answers : List Bool) →
-        SoundWords n opening → Run n (start n opening) log b → o.post.machine ≡ n → o.holdings ≡ empty → (hand_of b.hands o.post.vcpu).steps ≡ z.holdings.steps →
-        Came o v → slice_get list k ≡ Some op → op.command < 4 → ExtFits d list from awaited k v w answers (Ok tt) → Came w z → WasPinned n opening log op.first (level_type (op.command + 1)) }
+    ensures { (n : Machine) (opening : List ℕ) (log : List (ℕ × Step)) (b : State) (v w z : PortValue) (d from k : ℕ) (awaited : Option ℕ) (list : List ExtOp) (op : ExtOp) (answers : List Bool) →
+        SoundWords n opening → Run n (start n opening) log b → v.post.machine ≡ n → IsToldBySteps n v.post.vcpu v.holdings → (hand_of b.hands v.post.vcpu).steps ≡ z.holdings.steps →
+        slice_get list k ≡ Some op → op.command < 4 → ExtFits d list from awaited k v w answers (Ok tt) → Came w z → WasPinned n opening log op.first (level_type (op.command + 1)) }
 {
     every_run_stays_sound();
 }
