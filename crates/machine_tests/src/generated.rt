@@ -1,5 +1,5 @@
 //! Runs of the generated trace.
-use crate::runs::{run_paced, sink_of, source_of, words_and, words_of};
+use crate::runs::{refuses, run_paced, sink_of, source_of, words_and, words_of};
 use std::process::Abort;
 use xp_io::MemorySource;
 use xp_machine::Status;
@@ -60,14 +60,18 @@ fn a_failing_write_leaves_a_front_of_the_summary(rt: HostRuntime) {
     assert!(rt; sink.bytes() == "generated 6 ok".as_bytes());
 }
 
+const OTHER_NUMBERS: [(&str, &str); 6] = [
+    ("generate", ""),
+    ("generate", "0"),
+    ("generate", "060"),
+    ("generate", "60001"),
+    ("generate", "+6"),
+    ("generate", "6 "),
+];
+
 #[test]
 fn other_numbers_are_refused(rt: HostRuntime) {
     let mut source = unreadable(&rt);
     let mut sink = sink_of(&rt, 7, 0);
-    for number in ["", "0", "060", "60001", "+6", "6 "] {
-        let words = words_and(&rt, "generate", number);
-        let answer = run_paced(&rt, &words, &mut source, &mut sink);
-        assert!(rt; answer == Status::BadWords, "{number}");
-    }
-    assert!(rt; sink.bytes().is_empty());
+    refuses(&rt, &OTHER_NUMBERS, &mut source, &mut sink);
 }

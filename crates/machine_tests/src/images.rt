@@ -28,12 +28,11 @@ fn the_closing_machine_is_written(rt: HostRuntime) {
 #[test]
 fn what_is_no_image_is_refused_where_it_differs(rt: HostRuntime) {
     let image = image_of(&rt);
-    let bytes = image.as_slice();
-    assert_eq!(rt; bytes.len(), 4536);
-    let mut cut = bytes.to_vec(rt.alloc()).expect(&rt, "memory");
-    let _last = cut.pop();
-    is_bad(&rt, &cut, "bad image at 4535\n");
-    is_bad(&rt, &bytes[1..], "bad image at 0\n");
+    assert_eq!(rt; image.len(), 4536);
+    let (_, front) = image.split_last().expect(&rt, "a byte");
+    let (_, back) = image.split_first().expect(&rt, "a byte");
+    is_bad(&rt, front, "bad image at 4535\n");
+    is_bad(&rt, back, "bad image at 0\n");
     is_bad(&rt, &[], "bad image at 0\n");
 }
 

@@ -1,9 +1,9 @@
 //! Scripts of a vCPU alone under gates that pause them, at any one ask and at each: every report is the one without pauses.
 use crate::runs::{report_of, sink_of, source_of, words_of};
 use std::process::Abort;
-use std::test::Fail;
 use trace_gen::generate;
 use trace_text::write_trace;
+use xp_io::{MemorySink, MemorySource};
 use xp_machine::{Status, run_serial};
 use xp_preempt::{Listed, Never, Preempt};
 
@@ -46,11 +46,14 @@ fn in_turns(rt: &(impl Abort + AllocGlobal), script: &str, turns: u32) -> String
     format!(in rt.alloc(); "{script}turn 0 {turns}\nend\n").expect(rt, "memory")
 }
 
-// Whether the report is this one by a gate that says yes at one ask.
-fn reports(rt: &(impl Abort + AllocGlobal), trace: &str, yes_at: u64, report: &[u8]) -> bool {
-    let words = words_of(rt, "turns");
-    let mut source = source_of(rt, trace.as_bytes(), usize::MAX, 0);
-    let mut sink = sink_of(rt, usize::MAX, 0);
+// A run by a gate that says yes at one ask.
+fn run_paused(
+    rt: &(impl Abort + AllocGlobal),
+    words: &[String],
+    source: &mut MemorySource,
+    sink: &mut MemorySink,
+    yes_at: u64,
+) -> Status {
     let gate = Listed::new(vec![in rt.alloc(); yes_at].expect(rt, "memory"));
     let mut gates: Vec<Box<dyn Preempt + Send>> = Vec::new(rt.alloc());
     gates
@@ -61,7 +64,15 @@ fn reports(rt: &(impl Abort + AllocGlobal), trace: &str, yes_at: u64, report: &[
         gates.push(silent).expect(rt, "memory");
     }
     assert!(rt; gates.len() >= 16);
-    let answer = run_serial(rt.alloc(), &words, &mut source, &mut sink, gates);
+    run_serial(rt.alloc(), words, source, sink, gates)
+}
+
+// Whether its report is this one.
+fn reports(rt: &(impl Abort + AllocGlobal), trace: &str, yes_at: u64, report: &[u8]) -> bool {
+    let words = words_of(rt, "turns");
+    let mut source = source_of(rt, trace.as_bytes(), usize::MAX, 0);
+    let mut sink = sink_of(rt, usize::MAX, 0);
+    let answer = run_paused(rt, &words, &mut source, &mut sink, yes_at);
     answer == Status::Done && sink.bytes() == report
 }
 
@@ -121,22 +132,19 @@ fn no_pause_is_seen_in_the_report(rt: HostRuntime) {
     }
 }
 
-// Sixty operations of the generated script, up to its turns.
-fn generated(rt: &(impl Abort + AllocGlobal)) -> Result<String, Fail> {
-    let trace = generate(rt.alloc(), 60)?;
-    let bytes = write_trace(rt.alloc(), &trace)?;
-    let text = str::from_utf8(&bytes).expect(rt, "a text");
-    let (script, _) = text.split_once("turn ").expect(rt, "turns");
-    Ok(String::from_str(rt.alloc(), script)?)
+// The text of the generated script of sixty operations.
+fn generated(rt: &(impl Abort + AllocGlobal)) -> Vec<u8> {
+    let trace = generate(rt.alloc(), 60).expect(rt, "memory");
+    write_trace(rt.alloc(), &trace).expect(rt, "memory")
 }
 
 // A run of it takes some four times as long as one of those above, and 5,110 of them longer than a test has. So the pauses are 25 asks apart.
 #[test]
-fn no_pause_is_seen_in_the_report_of_a_generated_script(rt: HostRuntime) -> Result<(), Fail> {
-    let script = generated(&rt)?;
-    let script = script.as_str();
+fn no_pause_is_seen_in_the_report_of_a_generated_script(rt: HostRuntime) {
+    let bytes = generated(&rt);
+    let text = str::from_utf8(&bytes).expect(&rt, "a text");
+    let (script, _) = text.split_once("turn ").expect(&rt, "turns");
     let report = report_at_each(&rt, script, 60, 6000);
     sees_no_pause(&rt, script, 60, 205, 25, &report);
     asks_so_often(&rt, script, 60, 5110, &report);
-    Ok(())
 }

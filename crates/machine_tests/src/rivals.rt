@@ -2,6 +2,7 @@
 //! what the other one did, for ever. And what a vCPU waits for that nobody does.
 use crate::runs::{has_lines, sink_of, source_of, words_of};
 use std::process::Abort;
+use xp_io::{MemorySink, MemorySource};
 use xp_machine::{Status, run_serial};
 use xp_preempt::{Never, Paced, Preempt};
 
@@ -76,11 +77,14 @@ fn trace_in(rt: &(impl Abort + AllocGlobal), opening: &str, turns: &str, rounds:
     trace
 }
 
-// Its report. The second vCPU's gate may be one that never says yes.
-fn report_by(rt: &(impl Abort + AllocGlobal), command: &str, trace: &str, asks: bool) -> Vec<u8> {
-    let words = words_of(rt, command);
-    let mut source = source_of(rt, trace.as_bytes(), usize::MAX, 0);
-    let mut sink = sink_of(rt, usize::MAX, 0);
+// A run whose second vCPU's gate may be one that never says yes.
+fn run_rivals(
+    rt: &(impl Abort + AllocGlobal),
+    words: &[String],
+    source: &mut MemorySource,
+    sink: &mut MemorySink,
+    asks: bool,
+) -> Status {
     let mut gates: Vec<Box<dyn Preempt + Send>> = Vec::new(rt.alloc());
     for vcpu in 0..16 {
         if vcpu == 1 && !asks {
@@ -92,7 +96,15 @@ fn report_by(rt: &(impl Abort + AllocGlobal), command: &str, trace: &str, asks: 
         }
     }
     assert!(rt; gates.len() >= 16);
-    let answer = run_serial(rt.alloc(), &words, &mut source, &mut sink, gates);
+    run_serial(rt.alloc(), words, source, sink, gates)
+}
+
+// Its report.
+fn report_by(rt: &(impl Abort + AllocGlobal), command: &str, trace: &str, asks: bool) -> Vec<u8> {
+    let words = words_of(rt, command);
+    let mut source = source_of(rt, trace.as_bytes(), usize::MAX, 0);
+    let mut sink = sink_of(rt, usize::MAX, 0);
+    let answer = run_rivals(rt, &words, &mut source, &mut sink, asks);
     assert!(rt; answer == Status::Done, "{trace}");
     sink.bytes().to_vec(rt.alloc()).expect(rt, "memory")
 }

@@ -108,6 +108,21 @@ pub fn report_of(rt: &(impl Abort + AllocGlobal), command: &str, bytes: &[u8]) -
     report
 }
 
+// Each of these commands with one more word is refused, and nothing is written.
+pub fn refuses(
+    rt: &(impl Abort + AllocGlobal),
+    commands: &[(&str, &str)],
+    source: &mut MemorySource,
+    sink: &mut MemorySink,
+) {
+    for (front, last) in commands {
+        let words = words_and(rt, front, last);
+        let status = run_paced(rt, &words, source, sink);
+        assert!(rt; status == Status::BadWords, "{front} {last}");
+    }
+    assert!(rt; sink.bytes().is_empty());
+}
+
 // An example is a line with the words of a command, a trace, and behind a line `reports` what is wanted of the report. The report, and that.
 pub fn reported<'a>(rt: &(impl Abort + AllocGlobal), example: &'a str) -> (Vec<u8>, &'a str) {
     let (run, wanted) = example.split_once("reports\n").expect(rt, "a report");
@@ -205,12 +220,7 @@ fn other_words_are_refused_before_anything_is_read(rt: HostRuntime) {
     let mut source = source_of(&rt, FIRST_UPDATE.as_bytes(), usize::MAX, 0);
     let mut sink = sink_of(&rt, usize::MAX, 0);
     assert!(rt; run_paced(&rt, &[], &mut source, &mut sink) == Status::BadWords);
-    for (front, last) in OTHER_WORDS {
-        let words = words_and(&rt, front, last);
-        let status = run_paced(&rt, &words, &mut source, &mut sink);
-        assert!(rt; status == Status::BadWords, "{front} {last}");
-    }
-    assert!(rt; sink.bytes().is_empty());
+    refuses(&rt, &OTHER_WORDS, &mut source, &mut sink);
     let words = words_of(&rt, "turns");
     assert!(rt; run_paced(&rt, &words, &mut source, &mut sink) == Status::Done);
 }

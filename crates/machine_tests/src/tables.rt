@@ -6,7 +6,7 @@ ghost use Rattle.level_validate.specs.Tables.{IsIdle};
 ghost use Rattle.level_validate.specs.Unwinding.{own_domain};
 ghost use Rattle.xp_machine.specs.Ready.{TakesFresh};
 
-use crate::boards::{at_work, opened};
+use crate::boards::{at_work, board_at};
 use kind_words::look_kind;
 use level_validate::acquire;
 use shared_board::PlainBoard;
@@ -162,8 +162,7 @@ fn tree_with(rt: &(impl Abort + AllocGlobal), cells: &str) -> PlainBoard
     ensures { TakesFresh result }
 {
     let text = format!(in rt.alloc(); "{TREE}{cells}end\n").expect(rt, "memory");
-    let (board, _) = opened(rt.alloc(), text.as_str()).expect(rt, "a board");
-    board
+    board_at(rt, text.as_str())
 }
 
 fn yes_at(rt: &(impl Abort + AllocGlobal), ask: u64) -> Listed {
