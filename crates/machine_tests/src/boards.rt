@@ -16,7 +16,6 @@ use opening_rule::opening_words_are_sound;
 use shared_board::{PlainBoard, PlainPort, WholeBoard};
 use std::alloc::{AllocError, Global};
 use std::process::Abort;
-use std::test::Fail;
 use step_maker::look_clock;
 use trace_text::{ScriptList, Trace, read_trace};
 use xp_board::{Item, Port, Step};
@@ -64,6 +63,14 @@ pub(crate) fn opened(alloc: Global, text: &str) -> Option<(PlainBoard, Script)>
             },
         },
     }
+}
+
+// The board alone.
+pub(crate) fn board_at(rt: &(impl Abort + AllocGlobal), text: &str) -> PlainBoard
+    ensures { TakesFresh result }
+{
+    let (board, _) = opened(rt.alloc(), text).expect(rt, "a board");
+    board
 }
 
 // The port of vCPU 0, which runs and has nothing in hand.
@@ -210,21 +217,20 @@ pub(crate) fn steps_of(
 // The turn begins with looks at the own domain's life, the own ask, flushed and run word, and then at both old words, as each element does;
 // the frame's word is looked at, exchanged and lowered around the store; and the answer ends with a look at the clock.
 #[test]
-fn a_turn_of_an_update_makes_thirteen_steps(rt: HostRuntime) -> Result<(), Fail> {
+fn a_turn_of_an_update_makes_thirteen_steps(rt: HostRuntime) {
     let (mut board, script) = opened(rt.alloc(), TWO_DOMAINS).expect(&rt, "a board");
     assert!(rt; script.len() == 1);
     if script.len() == 1 && board.layout().vcpus() == 2 {
-        let steps = steps_of(rt.alloc(), &mut board, 1, script)?;
+        let steps = steps_of(rt.alloc(), &mut board, 1, script).expect(&rt, "memory");
         assert!(rt; steps.loads == 10);
         assert!(rt; (steps.exchanges, steps.stores, steps.sums) == (1, 1, 1));
         assert!(rt; refs_at(&mut board, 1) == Some(0x8000_0001_8000_0001));
     }
-    Ok(())
 }
 
 #[test]
-fn an_update_is_ok_on_an_own_frame_and_leaves_its_count(rt: HostRuntime) -> Result<(), Fail> {
-    let (mut board, _) = opened(rt.alloc(), TWO_DOMAINS).expect(&rt, "a board");
+fn an_update_is_ok_on_an_own_frame_and_leaves_its_count(rt: HostRuntime) {
+    let mut board = board_at(&rt, TWO_DOMAINS);
     let mut port = at_work(&rt, &mut board);
     let before = refs_of(&mut port, 0);
     assert!(rt; set_m2p(&mut port, 0, 0, 7) == Ok(()));
@@ -237,12 +243,11 @@ fn an_update_is_ok_on_an_own_frame_and_leaves_its_count(rt: HostRuntime) -> Resu
     let words = board.into_words();
     assert!(rt; m2p < words.len());
     assert!(rt; words.get(m2p) == 7);
-    Ok(())
 }
 
 #[test]
-fn references_are_refused_with_what_was_found(rt: HostRuntime) -> Result<(), Fail> {
-    let (mut board, _) = opened(rt.alloc(), TWO_DOMAINS).expect(&rt, "a board");
+fn references_are_refused_with_what_was_found(rt: HostRuntime) {
+    let mut board = board_at(&rt, TWO_DOMAINS);
     let mut port = at_work(&rt, &mut board);
     assert!(rt; take(&mut port, 3, true) == Err(Stop::Refused(Refusal::NoFrame { frame: 3 })));
     assert!(rt;
@@ -258,12 +263,11 @@ fn references_are_refused_with_what_was_found(rt: HostRuntime) -> Result<(), Fai
                 found: two
             }))
     );
-    Ok(())
 }
 
 #[test]
 fn an_exchange_of_an_old_word_is_lost(rt: HostRuntime) {
-    let (mut board, _) = opened(rt.alloc(), TWO_DOMAINS).expect(&rt, "a board");
+    let mut board = board_at(&rt, TWO_DOMAINS);
     let mut port = at_work(&rt, &mut board);
     let old = refs_of(&mut port, 0).expect(&rt, "a word");
     assert!(rt; take(&mut port, 0, true) == Ok(0));
@@ -273,6 +277,6 @@ fn an_exchange_of_an_old_word_is_lost(rt: HostRuntime) {
 
 #[test]
 fn looks_find_the_words_of_the_opening(rt: HostRuntime) {
-    let (mut board, _) = opened(rt.alloc(), TWO_DOMAINS).expect(&rt, "a board");
+    let mut board = board_at(&rt, TWO_DOMAINS);
     assert!(rt; looks(&mut board, 0) == Some((0, 5, 5, 0)));
 }

@@ -1,128 +1,90 @@
 //! Two vCPUs with one turn each in each round: one gives a table back while the other one takes it on. Without a rule each would undo
 //! what the other one did, for ever. And what a vCPU waits for that nobody does.
-use crate::runs::{bytes, with_pace};
+use crate::runs::{has_lines, sink_of, source_of, words_of};
 use std::process::Abort;
 use xp_io::{MemorySink, MemorySource};
 use xp_machine::{Status, run_serial};
 use xp_preempt::{Never, Paced, Preempt};
 
-// What it shows; the pace of the gates; whether the second vCPU's gate ever says yes; the trace without its turns; the round with which all operations are
-// answered and all tables given back; and lines of the report that come only then.
-#[derive(Clone, Copy)]
-struct Rivals {
-    shows: &'static str,
-    pace: &'static str,
-    asks: bool,
-    opening: &'static str,
-    rounds: usize,
-    lines: &'static str,
-}
-
-const RIVALS: [Rivals; 4] = [
-    Rivals {
-        shows: "A table is refused, and settled by one vCPU while the other one pins it.",
-        pace: "1",
-        asks: true,
-        opening: "xen-pv-trace 1\nframes 1\ndomain 1\nvcpu 0\nvcpu 0\nown 0 0 1\ncell 0 2 1 0x81\nop 0 ext 0 0 0\nop 1 ext 7 0 0 7 0 0 7 0 0 0 0 0\n",
-        rounds: 9,
-        lines: "vcpu 1 domain 0 base - user - old - -\nframe 0 owner 0 refs 1 alloc type L1 count 0 flags - at 0 m2p -\n",
-    },
-    Rivals {
-        shows: "The other one pins a table inside the one that is settled.",
-        pace: "1",
-        asks: true,
-        opening: "xen-pv-trace 1\nframes 2\ndomain 2\nvcpu 0\nvcpu 0\nown 0 0 2\ncell 0 0 1 0x1001\ncell 1 2 1 0x81\nop 0 ext 1 0 0\nop 1 ext 7 0 0 7 0 0 7 0 0 0 1 0\n",
-        rounds: 9,
-        lines: "vcpu 1 domain 0 base - user - old - -\nframe 1 owner 0 refs 1 alloc type L1 count 0 flags - at 0 m2p -\n",
-    },
-    Rivals {
-        shows: "The gates say yes at each second ask.",
-        pace: "2",
-        asks: true,
-        opening: "xen-pv-trace 1\nframes 1\ndomain 1\nvcpu 0\nvcpu 0\nown 0 0 1\ncell 0 4 1 0x81\nop 0 ext 0 0 0\nop 1 ext 7 0 0 7 0 0 7 0 0 7 0 0 7 0 0 7 0 0 0 0 0\n",
-        rounds: 9,
-        lines: "vcpu 1 domain 0 base - user - old - -\nframe 0 owner 0 refs 1 alloc type L1 count 0 flags - at 0 m2p -\n",
-    },
-    Rivals {
-        shows: "The other one's gate never says yes, but it waits for a flush, anew each time that its page is given back.",
-        pace: "1",
-        asks: false,
-        opening: "xen-pv-trace 1\nframes 2\ndomain 2\nvcpu 0\nvcpu 0\nown 0 0 2\ncell 0 511 1 0x1003\nop 0 read k 0x0\nop 0 ext 4 0 0\nop 1 ext 0 0 0\nop 1 ext 0 1 0 4 1 0\nop 1 ext 0 0 0\n",
-        rounds: 513,
-        lines: "op 3 ok done 1 value 0x0\nframe 0 owner 0 refs 2 alloc type L1 count 1 flags pv at 0 m2p -\n",
-    },
+// The command; whether the second vCPU's gate ever says yes; the trace without its turns, which says in a comment what it shows; the round with which all
+// operations are answered and all tables given back; and lines of the report that come only then.
+const RIVALS: [(&str, bool, &str, usize, &str); 4] = [
+    (
+        "turns --preempt 1",
+        true,
+        "# A table is refused, and settled by one vCPU while the other one pins it.\nxen-pv-trace 1\nframes 1\ndomain 1\nvcpu 0\nvcpu 0\nown 0 0 1\ncell 0 2 1 0x81\nop 0 ext 0 0 0\nop 1 ext 7 0 0 7 0 0 7 0 0 0 0 0\n",
+        9,
+        "vcpu 1 domain 0 base - user - old - -\nframe 0 owner 0 refs 1 alloc type L1 count 0 flags - at 0 m2p -\n",
+    ),
+    (
+        "turns --preempt 1",
+        true,
+        "# The other one pins a table inside the one that is settled.\nxen-pv-trace 1\nframes 2\ndomain 2\nvcpu 0\nvcpu 0\nown 0 0 2\ncell 0 0 1 0x1001\ncell 1 2 1 0x81\nop 0 ext 1 0 0\nop 1 ext 7 0 0 7 0 0 7 0 0 0 1 0\n",
+        9,
+        "vcpu 1 domain 0 base - user - old - -\nframe 1 owner 0 refs 1 alloc type L1 count 0 flags - at 0 m2p -\n",
+    ),
+    (
+        "turns --preempt 2",
+        true,
+        "# The gates say yes at each second ask.\nxen-pv-trace 1\nframes 1\ndomain 1\nvcpu 0\nvcpu 0\nown 0 0 1\ncell 0 4 1 0x81\nop 0 ext 0 0 0\nop 1 ext 7 0 0 7 0 0 7 0 0 7 0 0 7 0 0 7 0 0 0 0 0\n",
+        9,
+        "vcpu 1 domain 0 base - user - old - -\nframe 0 owner 0 refs 1 alloc type L1 count 0 flags - at 0 m2p -\n",
+    ),
+    (
+        "turns --preempt 1",
+        false,
+        "# The other one's gate never says yes, but it waits for a flush, anew each time that its page is given back.\nxen-pv-trace 1\nframes 2\ndomain 2\nvcpu 0\nvcpu 0\nown 0 0 2\ncell 0 511 1 0x1003\nop 0 read k 0x0\nop 0 ext 4 0 0\nop 1 ext 0 0 0\nop 1 ext 0 1 0 4 1 0\nop 1 ext 0 0 0\n",
+        513,
+        "op 3 ok done 1 value 0x0\nframe 0 owner 0 refs 2 alloc type L1 count 1 flags pv at 0 m2p -\n",
+    ),
 ];
 
-// What a vCPU waits for; the trace without its turns; the turns of a round; the rounds; and lines of the report behind them.
-#[derive(Clone, Copy)]
-struct Waiting {
-    shows: &'static str,
-    opening: &'static str,
-    turns: &'static str,
-    rounds: usize,
-    lines: &'static str,
-}
-
-const WAITING: [Waiting; 4] = [
-    Waiting {
-        shows: "At the clock's last value but one both wait for each other's flush: the clock comes to its last value, past which nobody can flush.",
-        opening: "xen-pv-trace 1\nframes 1\nclock 68719476734\ndomain 1\nvcpu 0\nvcpu 0\nop 0 ext 8 0 2\nop 1 ext 8 0 1\n",
-        turns: "turn 0 1\nturn 1 1\n",
-        rounds: 500,
-        lines: "pending 1\n",
-    },
-    Waiting {
-        shows: "With one value more they do not.",
-        opening: "xen-pv-trace 1\nframes 1\nclock 68719476733\ndomain 1\nvcpu 0\nvcpu 0\nop 0 ext 8 0 2\nop 1 ext 8 0 1\n",
-        turns: "turn 0 1\nturn 1 1\n",
-        rounds: 3,
-        lines: "op 1 ok done 1 value 0x0\n",
-    },
-    Waiting {
-        shows: "A vCPU that has no turn makes no flush.",
-        opening: "xen-pv-trace 1\nframes 1\ndomain 1\nvcpu 0\nvcpu 0\nop 0 ext 8 0 2\n",
-        turns: "turn 0 1\n",
-        rounds: 500,
-        lines: "pending 1\n",
-    },
-    Waiting {
-        shows: "With a turn in each round it does.",
-        opening: "xen-pv-trace 1\nframes 1\ndomain 1\nvcpu 0\nvcpu 0\nop 0 ext 8 0 2\n",
-        turns: "turn 0 1\nturn 1 1\n",
-        rounds: 3,
-        lines: "op 1 ok done 1 value 0x0\n",
-    },
+// What a vCPU waits for: the trace without its turns, the turns of a round, the rounds, and lines of the report behind them.
+const WAITING: [(&str, &str, usize, &str); 4] = [
+    (
+        "# At the clock's last value but one both wait for each other's flush: the clock comes to its last value, past which nobody can flush.\nxen-pv-trace 1\nframes 1\nclock 68719476734\ndomain 1\nvcpu 0\nvcpu 0\nop 0 ext 8 0 2\nop 1 ext 8 0 1\n",
+        "turn 0 1\nturn 1 1\n",
+        500,
+        "pending 1\n",
+    ),
+    (
+        "# With one value more they do not.\nxen-pv-trace 1\nframes 1\nclock 68719476733\ndomain 1\nvcpu 0\nvcpu 0\nop 0 ext 8 0 2\nop 1 ext 8 0 1\n",
+        "turn 0 1\nturn 1 1\n",
+        3,
+        "op 1 ok done 1 value 0x0\n",
+    ),
+    (
+        "# A vCPU that has no turn makes no flush.\nxen-pv-trace 1\nframes 1\ndomain 1\nvcpu 0\nvcpu 0\nop 0 ext 8 0 2\n",
+        "turn 0 1\n",
+        500,
+        "pending 1\n",
+    ),
+    (
+        "# With a turn in each round it does.\nxen-pv-trace 1\nframes 1\ndomain 1\nvcpu 0\nvcpu 0\nop 0 ext 8 0 2\n",
+        "turn 0 1\nturn 1 1\n",
+        3,
+        "op 1 ok done 1 value 0x0\n",
+    ),
 ];
 
 // The trace, with so many rounds of these turns.
-fn trace(
-    rt: &(impl Abort + AllocGlobal),
-    opening: &'static str,
-    turns: &'static str,
-    rounds: usize,
-) -> Vec<u8> {
-    let mut trace = bytes(rt, opening);
+fn trace_in(rt: &(impl Abort + AllocGlobal), opening: &str, turns: &str, rounds: usize) -> String {
+    let mut trace = String::from_str(rt.alloc(), opening).expect(rt, "memory");
     for _ in 0..rounds {
-        trace
-            .extend_from_slice(turns.as_bytes())
-            .expect(rt, "memory");
+        trace.push_str(turns).expect(rt, "memory");
     }
-    trace.extend_from_slice(b"end\n").expect(rt, "memory");
+    trace.push_str("end\n").expect(rt, "memory");
     trace
 }
 
-// Its report. The second vCPU's gate may be one that never says yes.
-fn report(
+// A run whose second vCPU's gate may be one that never says yes.
+fn run_rivals(
     rt: &(impl Abort + AllocGlobal),
-    trace: Vec<u8>,
-    pace: &'static str,
+    words: &[String],
+    source: &mut MemorySource,
+    sink: &mut MemorySink,
     asks: bool,
-    shows: &'static str,
-) -> Vec<u8> {
-    let mut source = MemorySource::new(trace, Vec::new(rt.alloc()));
-    let mut sink = MemorySink::new(rt.alloc(), 8192, 8192, Vec::new(rt.alloc())).expect(
-        rt, "memory",
-    );
+) -> Status {
     let mut gates: Vec<Box<dyn Preempt + Send>> = Vec::new(rt.alloc());
     for vcpu in 0..16 {
         if vcpu == 1 && !asks {
@@ -134,49 +96,53 @@ fn report(
         }
     }
     assert!(rt; gates.len() >= 16);
-    let answer = run_serial(
-        rt.alloc(),
-        &with_pace(rt, pace),
-        &mut source,
-        &mut sink,
-        gates,
-    );
-    assert!(rt; answer == Status::Done, "{}", shows);
-    let mut text = Vec::new(rt.alloc());
-    text.extend_from_slice(sink.bytes()).expect(rt, "memory");
-    text
+    run_serial(rt.alloc(), words, source, sink, gates)
 }
 
-// The report has each of those lines.
-fn has_lines(rt: &(impl Abort + AllocGlobal), report: &[u8], lines: &str) -> bool {
-    let text = str::from_utf8(report).expect(rt, "a text");
-    for wanted in lines.lines() {
-        if !text.lines().any(|line| line == wanted) {
-            return false;
-        }
-    }
-    true
+// Its report.
+fn report_by(rt: &(impl Abort + AllocGlobal), command: &str, trace: &str, asks: bool) -> Vec<u8> {
+    let words = words_of(rt, command);
+    let mut source = source_of(rt, trace.as_bytes(), usize::MAX, 0);
+    let mut sink = sink_of(rt, usize::MAX, 0);
+    let answer = run_rivals(rt, &words, &mut source, &mut sink, asks);
+    assert!(rt; answer == Status::Done, "{trace}");
+    sink.bytes().to_vec(rt.alloc()).expect(rt, "memory")
+}
+
+// Whether the report of so many rounds, of a turn for each vCPU, has these lines.
+fn comes_to(
+    rt: &(impl Abort + AllocGlobal),
+    command: &str,
+    asks: bool,
+    opening: &str,
+    rounds: usize,
+    lines: &str,
+) -> bool {
+    let trace = trace_in(rt, opening, "turn 0 1\nturn 1 1\n", rounds);
+    let report = report_by(rt, command, trace.as_str(), asks);
+    has_lines(rt, &report, lines)
 }
 
 #[test]
 fn vcpus_at_one_table_come_to_their_end(rt: HostRuntime) {
-    for rivals in RIVALS.iter() {
-        let behind = |rounds: usize| {
-            let trace = trace(&rt, rivals.opening, "turn 0 1\nturn 1 1\n", rounds);
-            report(&rt, trace, rivals.pace, rivals.asks, rivals.shows)
-        };
-        let early = behind(rivals.rounds.saturating_sub(1));
-        assert!(rt; !has_lines(&rt, &early, rivals.lines), "{}", rivals.shows);
-        let late = behind(rivals.rounds);
-        assert!(rt; has_lines(&rt, &late, rivals.lines), "{}", rivals.shows);
+    for (command, asks, opening, rounds, lines) in RIVALS {
+        let early = rounds.saturating_sub(1);
+        assert!(rt;
+            !comes_to(&rt, command, asks, opening, early, lines),
+            "{opening}"
+        );
+        assert!(rt;
+            comes_to(&rt, command, asks, opening, rounds, lines),
+            "{opening}"
+        );
     }
 }
 
 #[test]
 fn a_vcpu_waits_for_ever_where_nobody_flushes(rt: HostRuntime) {
-    for waiting in WAITING.iter() {
-        let trace = trace(&rt, waiting.opening, waiting.turns, waiting.rounds);
-        let report = report(&rt, trace, "1", true, waiting.shows);
-        assert!(rt; has_lines(&rt, &report, waiting.lines), "{}", waiting.shows);
+    for (opening, turns, rounds, lines) in WAITING {
+        let trace = trace_in(&rt, opening, turns, rounds);
+        let report = report_by(&rt, "turns --preempt 1", trace.as_str(), true);
+        assert!(rt; has_lines(&rt, &report, lines), "{opening}");
     }
 }

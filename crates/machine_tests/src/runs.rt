@@ -1,3 +1,4 @@
+//! Runs from a trace to what they write, and the helpers by which all tests run one.
 ghost use Rattle.std.specs.Prelude.{◌≡◌};
 ghost use Rattle.xp_io.specs.Causes.{Rose};
 
@@ -14,33 +15,42 @@ pub const FIRST_UPDATE: &str =
 const FIRST_REPORT: &str =
     "vcpu 0 domain 0 base - user - old - -\nop 1 ok done 1 value 0x0\ndomain 0 live pages 1\nframe 0 owner 0 refs 1 alloc type none count 0 flags - at 0 m2p 0x7\nfree 0\nend\n";
 
-pub fn word(rt: &(impl Abort + AllocGlobal), text: &str) -> String {
-    let mut word = String::new(rt.alloc());
-    word.push_str(text).expect(rt, "memory");
-    word
+// The words of a command; of the empty one none.
+pub fn words_of(rt: &(impl Abort + AllocGlobal), command: &str) -> Vec<String> {
+    let mut words = Vec::new(rt.alloc());
+    for word in command.split_whitespace() {
+        let word = String::from_str(rt.alloc(), word).expect(rt, "memory");
+        words.push(word).expect(rt, "memory");
+    }
+    words
 }
 
-pub fn turns(rt: &(impl Abort + AllocGlobal)) -> Vec<String> {
-    vec![in rt.alloc(); word(rt, "turns")].expect(rt, "memory")
+// And one more, which may be any text.
+pub fn words_and(rt: &(impl Abort + AllocGlobal), command: &str, last: &str) -> Vec<String> {
+    let mut words = words_of(rt, command);
+    let last = String::from_str(rt.alloc(), last).expect(rt, "memory");
+    words.push(last).expect(rt, "memory");
+    words
 }
 
-pub fn with_pace(rt: &(impl Abort + AllocGlobal), pace: &str) -> Vec<String> {
-    vec![in rt.alloc(); word(rt, "turns"), word(rt, "--preempt"), word(rt, pace)].expect(
-        rt, "memory",
-    )
+// A source of these bytes, that gives at most so many at a read, and of which one read fails; none, where that is 0.
+pub fn source_of(
+    rt: &(impl Abort + AllocGlobal),
+    bytes: &[u8],
+    most: usize,
+    fails: u64,
+) -> MemorySource {
+    let most = most.max(1);
+    let fails = vec![in rt.alloc(); fails].expect(rt, "memory");
+    let bytes = bytes.to_vec(rt.alloc()).expect(rt, "memory");
+    MemorySource::in_pieces(bytes, most, fails)
 }
 
-// `turns` and one more word.
-pub fn with_option(rt: &(impl Abort + AllocGlobal), option: &str) -> Vec<String> {
-    vec![in rt.alloc(); word(rt, "turns"), word(rt, option)].expect(rt, "memory")
-}
-
-pub fn bytes(rt: &(impl Abort + AllocGlobal), text: &str) -> Vec<u8> {
-    let mut bytes = Vec::new(rt.alloc());
-    bytes
-        .extend_from_slice(text.as_bytes())
-        .expect(rt, "memory");
-    bytes
+// A sink that takes at most so many bytes at a write, and of which one write fails; none, where that is 0.
+pub fn sink_of(rt: &(impl Abort + AllocGlobal), most: usize, fails: u64) -> MemorySink {
+    let most = most.max(1);
+    let fails = vec![in rt.alloc(); fails].expect(rt, "memory");
+    MemorySink::new(rt.alloc(), 32768, most, fails).expect(rt, "memory")
 }
 
 // A run with gates that have a pace.
@@ -62,67 +72,111 @@ pub fn run_paced<S: Source, K: Sink>(
     run_serial(rt.alloc(), words, source, sink, gates)
 }
 
-// A source that gives at most `most` bytes at a read, and a sink that takes at most `most` at a write.
-pub fn runs_to(
+// How a run ends, and what it writes: with a source that gives at most so many bytes at a read, and a sink that takes as many at a write.
+pub fn ran(
     rt: &(impl Abort + AllocGlobal),
-    trace: &str,
+    command: &str,
+    bytes: &[u8],
     most: usize,
-    status: Status,
-    text: &str,
-) {
-    let words = turns(rt);
-    runs_by(rt, &words, trace, most, status, text);
+) -> (Status, Vec<u8>) {
+    let words = words_of(rt, command);
+    let mut source = source_of(rt, bytes, most, 0);
+    let mut sink = sink_of(rt, most, 0);
+    let status = run_paced(rt, &words, &mut source, &mut sink);
+    let written = sink.bytes().to_vec(rt.alloc()).expect(rt, "memory");
+    (status, written)
 }
 
-pub fn runs_by(
+// It ends so, and writes this.
+pub fn answers(
     rt: &(impl Abort + AllocGlobal),
-    words: &[String],
+    command: &str,
     trace: &str,
     most: usize,
     status: Status,
     text: &str,
 ) {
-    let most = most.max(1);
-    let mut source = MemorySource::in_pieces(bytes(rt, trace), most, Vec::new(rt.alloc()));
-    let mut sink = MemorySink::new(rt.alloc(), 4096, most, Vec::new(rt.alloc())).expect(
-        rt, "memory",
-    );
-    let answer = run_paced(rt, words, &mut source, &mut sink);
-    assert!(rt; answer == status);
-    assert!(rt; sink.bytes() == text.as_bytes());
+    let (ended, written) = ran(rt, command, trace.as_bytes(), most);
+    assert!(rt; ended == status, "{trace}");
+    assert!(rt; written.as_slice() == text.as_bytes(), "{trace}");
+}
+
+// What it writes, where it is done.
+pub fn report_of(rt: &(impl Abort + AllocGlobal), command: &str, bytes: &[u8]) -> Vec<u8> {
+    let (status, report) = ran(rt, command, bytes, usize::MAX);
+    assert!(rt; status == Status::Done, "{command}");
+    report
+}
+
+// Each of these commands with one more word is refused, and nothing is written.
+pub fn refuses(
+    rt: &(impl Abort + AllocGlobal),
+    commands: &[(&str, &str)],
+    source: &mut MemorySource,
+    sink: &mut MemorySink,
+) {
+    for (front, last) in commands {
+        let words = words_and(rt, front, last);
+        let status = run_paced(rt, &words, source, sink);
+        assert!(rt; status == Status::BadWords, "{front} {last}");
+    }
+    assert!(rt; sink.bytes().is_empty());
+}
+
+// An example is a line with the words of a command, a trace, and behind a line `reports` what is wanted of the report. The report, and that.
+pub fn reported<'a>(rt: &(impl Abort + AllocGlobal), example: &'a str) -> (Vec<u8>, &'a str) {
+    let (run, wanted) = example.split_once("reports\n").expect(rt, "a report");
+    let (command, trace) = run.split_once('\n').expect(rt, "a command");
+    let (status, report) = ran(rt, command, trace.as_bytes(), usize::MAX);
+    assert!(rt; status == Status::Done, "{example}");
+    (report, wanted)
+}
+
+// Whether a report has each of these lines.
+pub fn has_lines(rt: &impl Abort, report: &[u8], lines: &str) -> bool {
+    let text = str::from_utf8(report).expect(rt, "a text");
+    for wanted in lines.lines() {
+        if !text.lines().any(|line| line == wanted) {
+            return false;
+        }
+    }
+    true
 }
 
 #[test]
 fn the_first_update_is_reported_whatever_the_pieces(rt: HostRuntime) {
-    runs_to(&rt, FIRST_UPDATE, 1, Status::Done, FIRST_REPORT);
-    runs_to(&rt, FIRST_UPDATE, 7, Status::Done, FIRST_REPORT);
-    runs_to(&rt, FIRST_UPDATE, usize::MAX, Status::Done, FIRST_REPORT);
+    for most in [1, 7, usize::MAX] {
+        answers(&rt, "turns", FIRST_UPDATE, most, Status::Done, FIRST_REPORT);
+    }
 }
+
+const BAD_TRACES: [(&str, Status, &str); 3] = [
+    ("", Status::BadTrace, "bad trace line 1: end\n"),
+    (
+        "xen-pv-trace 1\nframes 0\n",
+        Status::BadTrace,
+        "bad trace line 2: range\n",
+    ),
+    (
+        "xen-pv-trace 1\nframes 4097\n",
+        Status::TooLarge,
+        "too large line 2: frames 4097\n",
+    ),
+];
 
 #[test]
 fn a_bad_trace_and_a_large_one_are_named_with_their_line(rt: HostRuntime) {
-    runs_to(&rt, "", 7, Status::BadTrace, "bad trace line 1: end\n");
-    runs_to(
-        &rt,
-        "xen-pv-trace 1\nframes 0\n",
-        7,
-        Status::BadTrace,
-        "bad trace line 2: range\n",
-    );
-    runs_to(
-        &rt,
-        "xen-pv-trace 1\nframes 4097\n",
-        7,
-        Status::TooLarge,
-        "too large line 2: frames 4097\n",
-    );
+    for (trace, status, text) in BAD_TRACES {
+        answers(&rt, "turns", trace, 7, status, text);
+    }
 }
 
 // A free frame, a frame that the machine has not, and a command that is not built; the last frame, and one past it.
 #[test]
 fn each_refusal_of_an_update_names_what_was_found(rt: HostRuntime) {
-    runs_to(
+    answers(
         &rt,
+        "turns",
         "xen-pv-trace 1\nframes 16\ndomain 16\nvcpu 0\nown 0 0 8\nop 0 mmu 0x7ff0 0xc001 1\nop 0 mmu 0x7ff0 0x10001 1\nop 0 mmu 0x7ff0 0x3 1\nturn 0 3\nend\n",
         usize::MAX,
         Status::Done,
@@ -133,8 +187,9 @@ fn each_refusal_of_an_update_names_what_was_found(rt: HostRuntime) {
 // Two domains take turns in the order of the lines; the second has a turn too few for its script.
 #[test]
 fn turns_are_taken_in_the_order_of_their_lines(rt: HostRuntime) {
-    runs_to(
+    answers(
         &rt,
+        "turns",
         "xen-pv-trace 1\nframes 2\ndomain 1\ndomain 1\nvcpu 0\nvcpu 1\nown 0 0 1\nown 1 1 1\nop 0 mmu 0x7ff0 0x1 7\nop 1 mmu 0x7ff0 0x1001 8\nop 1 mmu 0x7ff0 0x1 9\nop 1 mmu 0x7ff0 0x1001 10\nturn 1 2\nturn 0 5\nend\n",
         usize::MAX,
         Status::Done,
@@ -142,48 +197,45 @@ fn turns_are_taken_in_the_order_of_their_lines(rt: HostRuntime) {
     );
 }
 
+// Words, and one more.
+const OTHER_WORDS: [(&str, &str); 14] = [
+    ("", "dance"),
+    ("turns --preempt", ""),
+    ("turns --preempt", "01"),
+    ("turns --preempt", "+1"),
+    ("turns --preempt", "1 "),
+    ("turns --preempt", "0x1"),
+    ("turns --preempt", "1000001"),
+    ("turns --preempt", "10000000000000000000000"),
+    ("turns", "--preempt"),
+    ("turns", "--preempt="),
+    ("turns", "--preempt=01"),
+    ("turns", "--preempt=+1"),
+    ("turns", "--help"),
+    ("turns", "--"),
+];
+
 #[test]
 fn other_words_are_refused_before_anything_is_read(rt: HostRuntime) {
-    let words = vec![in rt.alloc(); word(&rt, "dance")].expect(&rt, "memory");
-    let mut source = MemorySource::new(bytes(&rt, FIRST_UPDATE), Vec::new(rt.alloc()));
-    let mut sink = MemorySink::new(rt.alloc(), 4096, 4096, Vec::new(rt.alloc())).expect(
-        &rt, "memory",
-    );
-    assert!(rt; run_paced(&rt, &words, &mut source, &mut sink) == Status::BadWords);
+    let mut source = source_of(&rt, FIRST_UPDATE.as_bytes(), usize::MAX, 0);
+    let mut sink = sink_of(&rt, usize::MAX, 0);
     assert!(rt; run_paced(&rt, &[], &mut source, &mut sink) == Status::BadWords);
-    for pace in [
-        "",
-        "01",
-        "+1",
-        "1 ",
-        "0x1",
-        "1000001",
-        "10000000000000000000000",
-    ] {
-        let words = with_pace(&rt, pace);
-        assert!(rt; run_paced(&rt, &words, &mut source, &mut sink) == Status::BadWords);
-    }
-    for option in [
-        "--preempt",
-        "--preempt=",
-        "--preempt=01",
-        "--preempt=+1",
-        "--help",
-        "--",
-    ] {
-        let words = with_option(&rt, option);
-        assert!(rt; run_paced(&rt, &words, &mut source, &mut sink) == Status::BadWords);
-    }
-    assert!(rt; sink.bytes().is_empty());
-    assert!(rt; run_paced(&rt, &turns(&rt), &mut source, &mut sink) == Status::Done);
+    refuses(&rt, &OTHER_WORDS, &mut source, &mut sink);
+    let words = words_of(&rt, "turns");
+    assert!(rt; run_paced(&rt, &words, &mut source, &mut sink) == Status::Done);
 }
 
 // That no fault is possible here follows from the contract of `run` and the constant counts of these two.
 #[test]
 fn a_source_and_a_sink_that_cannot_fail_give_no_fault(rt: HostRuntime) {
-    let mut source = HonestSource::new(bytes(&rt, FIRST_UPDATE));
+    let words = words_of(&rt, "turns");
+    let bytes = FIRST_UPDATE
+        .as_bytes()
+        .to_vec(rt.alloc())
+        .expect(&rt, "memory");
+    let mut source = HonestSource::new(bytes);
     let mut sink = HonestSink::new();
-    let answer = run_paced(&rt, &turns(&rt), &mut source, &mut sink);
+    let answer = run_paced(&rt, &words, &mut source, &mut sink);
     let fault = matches!(answer, Status::ReadFault | Status::WriteFault);
     prove!(!fault);
     assert!(rt; answer == Status::Done);
@@ -204,12 +256,10 @@ const OPERATIONS: &str =
 
 // The guest's trace, read in pieces of 7 bytes, where this read fails; nothing is to be written then.
 fn answer_where_read_fails(rt: &(impl Abort + AllocGlobal), call: u64) -> Status {
-    let fails = vec![in rt.alloc(); call].expect(rt, "memory");
-    let mut source = MemorySource::in_pieces(bytes(rt, GUEST), 7, fails);
-    let mut sink = MemorySink::new(rt.alloc(), 8192, 8192, Vec::new(rt.alloc())).expect(
-        rt, "memory",
-    );
-    let answer = run_paced(rt, &turns(rt), &mut source, &mut sink);
+    let words = words_of(rt, "turns");
+    let mut source = source_of(rt, GUEST.as_bytes(), 7, call);
+    let mut sink = sink_of(rt, usize::MAX, 0);
+    let answer = run_paced(rt, &words, &mut source, &mut sink);
     assert!(rt; answer == Status::Done || sink.bytes().is_empty());
     answer
 }
@@ -225,50 +275,53 @@ fn a_failing_read_writes_nothing(rt: HostRuntime) {
 
 // The guest's report, written in pieces of 7 bytes, where this write fails; what is written is a front of that report.
 fn answer_where_write_fails(rt: &(impl Abort + AllocGlobal), call: u64, report: &[u8]) -> Status {
-    let fails = vec![in rt.alloc(); call].expect(rt, "memory");
-    let mut source = HonestSource::new(bytes(rt, GUEST));
-    let mut sink = MemorySink::new(rt.alloc(), 8192, 7, fails).expect(rt, "memory");
-    let answer = run_paced(rt, &turns(rt), &mut source, &mut sink);
-    assert!(rt; report.starts_with(sink.bytes()));
+    let words = words_of(rt, "turns");
+    let mut source = source_of(rt, GUEST.as_bytes(), usize::MAX, 0);
+    let mut sink = sink_of(rt, 7, call);
+    let answer = run_paced(rt, &words, &mut source, &mut sink);
     let whole = call.saturating_sub(1).saturating_mul(7);
+    assert!(rt; report.starts_with(sink.bytes()));
     assert!(rt; sink.bytes().len() as u64 == whole.min(report.len() as u64));
     answer
 }
 
 #[test]
 fn a_failing_write_leaves_a_front_of_the_report(rt: HostRuntime) {
-    let report = report_of_text(&rt, bytes(&rt, GUEST));
+    let report = report_of(&rt, "turns", GUEST.as_bytes());
     for call in 1..=GUEST_WRITES {
         assert!(rt; answer_where_write_fails(&rt, call, &report) == Status::WriteFault);
     }
     assert!(rt; answer_where_write_fails(&rt, GUEST_WRITES + 1, &report) == Status::Done);
 }
 
-// The report of a trace.
-fn report_of_text(rt: &(impl Abort + AllocGlobal), trace: Vec<u8>) -> Vec<u8> {
-    let mut source = HonestSource::new(trace);
-    let mut sink = MemorySink::new(rt.alloc(), 16384, 16384, Vec::new(rt.alloc())).expect(
-        rt, "memory",
-    );
-    let answer = run_paced(rt, &turns(rt), &mut source, &mut sink);
-    assert!(rt; answer == Status::Done);
-    let mut text = Vec::new(rt.alloc());
-    text.extend_from_slice(sink.bytes()).expect(rt, "memory");
-    text
+// A trace, read and written.
+fn written_again(rt: &(impl Abort + AllocGlobal), trace: &[u8]) -> Result<Vec<u8>, Fail> {
+    let trace = read_trace(rt.alloc(), trace)?;
+    Ok(write_trace(rt.alloc(), &trace)?)
 }
 
 #[test]
 fn a_trace_written_and_read_again_is_the_same_and_runs_alike(rt: HostRuntime) -> Result<(), Fail> {
     for text in [GUEST, OPERATIONS] {
-        let trace = read_trace(rt.alloc(), text.as_bytes())?;
-        let written = write_trace(rt.alloc(), &trace)?;
-        let again = read_trace(rt.alloc(), &written)?;
-        let twice = write_trace(rt.alloc(), &again)?;
-        assert!(rt; twice == written);
-        let report = report_of_text(&rt, bytes(&rt, text));
-        assert!(rt; report_of_text(&rt, written) == report);
+        let written = written_again(&rt, text.as_bytes())?;
+        assert!(rt; written_again(&rt, &written)? == written);
+        let report = report_of(&rt, "turns", text.as_bytes());
+        assert!(rt; report_of(&rt, "turns", &written) == report);
     }
     Ok(())
+}
+
+// It is bad at this line, which is not there.
+fn ends_early(rt: &(impl Abort + AllocGlobal), front: &str, line: u32) {
+    let want = format!(in rt.alloc(); "bad trace line {line}: end\n").expect(rt, "memory");
+    answers(
+        rt,
+        "turns",
+        front,
+        usize::MAX,
+        Status::BadTrace,
+        want.as_str(),
+    );
 }
 
 #[test]
@@ -282,14 +335,7 @@ fn a_guest_cut_after_any_line_is_a_bad_trace_that_ends_there(rt: HostRuntime) ->
         front.push_str(next)?;
         front.push('\n')?;
         line = line.saturating_add(1);
-        let want = format!(in rt.alloc(); "bad trace line {line}: end\n")?;
-        runs_to(
-            &rt,
-            front.as_str(),
-            usize::MAX,
-            Status::BadTrace,
-            want.as_str(),
-        );
+        ends_early(&rt, front.as_str(), line);
     }
     Ok(())
 }

@@ -8,13 +8,12 @@ ghost use Rattle.step_maker.specs.Moves.{Came};
 ghost use Rattle.xp_machine.specs.Ready.{Idles};
 ghost use Rattle.xp_machine.specs.Ready.{TakesFresh};
 
-use crate::boards::{TWO_DOMAINS, at_work, opened, steps_of};
+use crate::boards::{TWO_DOMAINS, at_work, board_at, opened, steps_of};
 use flush_words::{ask, look_flushed, look_life, look_privileges, look_run, look_run_of};
 use frame_words::{get_ref, look_cell};
 use kind_words::{count_type, look_kind};
 use shared_board::{PlainBoard, PlainPort, WholeBoard};
 use std::process::Abort;
-use std::test::Fail;
 use step_maker::look_clock;
 use writable_pages::take_page;
 use xp_board::Port;
@@ -64,7 +63,7 @@ fn has_cached(board: &mut PlainBoard, page: u64) -> Option<bool> {
 
 #[test]
 fn a_load_answers_the_word_that_stands_there(rt: HostRuntime) {
-    let (mut board, _) = opened(rt.alloc(), PRIVILEGED).expect(&rt, "a board");
+    let mut board = board_at(&rt, PRIVILEGED);
     assert!(rt; cell_of(&mut board, 0, 3) == Some(0x77));
     assert!(rt; cell_of(&mut board, 0, 4) == Some(0));
     assert!(rt; life_and_privileges(&mut board, 0) == Some((0, 0x2_0002)));
@@ -74,7 +73,7 @@ fn a_load_answers_the_word_that_stands_there(rt: HostRuntime) {
 
 #[test]
 fn a_vcpu_opens_without_translations(rt: HostRuntime) {
-    let (mut board, _) = opened(rt.alloc(), PRIVILEGED).expect(&rt, "a board");
+    let mut board = board_at(&rt, PRIVILEGED);
     assert!(rt; has_cached(&mut board, 0) == Some(false));
 }
 
@@ -127,18 +126,17 @@ fn flushes_of(board: PlainBoard, vcpu: u32) -> Option<(u64, u64, u64)> {
 
 // A load, an exchange and a store more than without the ask: the clock goes up, and the vCPU is flushed to it.
 #[test]
-fn a_vcpu_that_was_asked_flushes_as_its_turn_begins(rt: HostRuntime) -> Result<(), Fail> {
+fn a_vcpu_that_was_asked_flushes_as_its_turn_begins(rt: HostRuntime) {
     let (board, script) = opened(rt.alloc(), TWO_DOMAINS).expect(&rt, "a board");
     assert!(rt; script.len() == 1);
     let (mut board, asked) = ask_by_first(&rt, board, 1);
     assert!(rt; asked == 5);
     if script.len() == 1 && board.layout().vcpus() == 2 {
-        let steps = steps_of(rt.alloc(), &mut board, 1, script)?;
+        let steps = steps_of(rt.alloc(), &mut board, 1, script).expect(&rt, "memory");
         assert!(rt; steps.loads == 11);
         assert!(rt; (steps.exchanges, steps.stores, steps.sums) == (2, 2, 1));
     }
     assert!(rt; flushes_of(board, 1) == Some((6, 5, 6)));
-    Ok(())
 }
 
 // How many type counts a frame has that is taken as writable, and counted once more.
@@ -180,7 +178,7 @@ fn count_more<P: Port>(port: &mut P, f: u64, domain: u16) -> Option<u64>
 
 #[test]
 fn a_writable_frame_has_a_type_count_for_each_holder(rt: HostRuntime) {
-    let (mut board, _) = opened(rt.alloc(), PRIVILEGED).expect(&rt, "a board");
+    let mut board = board_at(&rt, PRIVILEGED);
     let mut port = at_work(&rt, &mut board);
     let vcpu = port.vcpu();
     let domain = port.layout().vcpu_domain.as_slice()[vcpu as usize];

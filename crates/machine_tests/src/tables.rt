@@ -6,15 +6,15 @@ ghost use Rattle.level_validate.specs.Tables.{IsIdle};
 ghost use Rattle.level_validate.specs.Unwinding.{own_domain};
 ghost use Rattle.xp_machine.specs.Ready.{TakesFresh};
 
-use crate::boards::{at_work, opened};
-use kind_words::{dead_kind, live_kind, look_kind, partial_kind};
+use crate::boards::{at_work, board_at};
+use kind_words::look_kind;
 use level_validate::acquire;
 use shared_board::PlainBoard;
 use std::process::Abort;
 use table_words::{OldWord, look_old};
 use xp_board::Port;
 use xp_preempt::{Listed, Never, Preempt};
-use xp_words::{KindWord, PageType, Pause, Refusal, Stop};
+use xp_words::{PageType, Pause, Refusal, Stop};
 
 // Frames 0 to 3 are domain 0's, and frame 4 is domain 1's. Entry 0 of frame 0 leads to frame 1, whose entries 0 and 5 map
 // frame 2 writable and frame 3 read-only.
@@ -24,28 +24,145 @@ const TREE: &str =
 // The reference word of frame 4.
 const OF_ANOTHER: u64 = 0x8000_0001_8000_0001;
 
-// A call for one frame and level, by a gate that says yes at one ask; at none, where that is 0.
-#[derive(Clone, Copy)]
-struct Case {
-    // lines of cells behind those of the tree
-    cells: &'static str,
-    frame: u64,
-    level: u8,
-    yes_at: u64,
-    answer: Result<u32, Stop>,
-    // the kind words of frames 0 to 3 afterwards
-    kinds: [KindWord; 4],
-    // the first old word afterwards
-    named: u64,
-}
+// Kind words: of a frame that was never taken, of ordinary memory, and of tables with one type count.
+const NEVER_TAKEN: u64 = 0;
+
+const PAGE: u64 = 0x0074_0000_0000_0001;
+
+const LIVE_L1: u64 = 0x0014_0000_0000_0001;
+
+const LIVE_L2: u64 = 0x0024_0000_0000_0001;
+
+// Partial, with no entry recorded; an entry that is recorded counts once.
+const PARTIAL_L1: u64 = 0x0012_0000_0000_0000;
+
+const PARTIAL_L2: u64 = 0x0022_0000_0000_0000;
+
+// The same with the kept mark.
+const KEPT_L2: u64 = 0x0022_8000_0000_0000;
+
+const KEPT_L4: u64 = 0x0042_8000_0000_0000;
+
+const ENTRY: u64 = 0x0010_0000_0000;
+
+const FOREIGN: Refusal = Refusal::WrongOwner {
+    frame: 4,
+    found: OF_ANOTHER,
+};
+
+const RESERVED: Refusal = Refusal::Reserved {
+    frame: 1,
+    index: 7,
+    entry: 0x200b,
+};
+
+// A table that maps itself writable, with the word of an L1 table in work.
+const OF_ITSELF: Refusal = Refusal::OtherType {
+    frame: 1,
+    want: PageType::Writable,
+    found: 0x0011_0000_0000_0000,
+};
+
+const WHOLE: [u64; 4] = [LIVE_L2, LIVE_L1, PAGE, NEVER_TAKEN];
+
+// Stopped at entry 7 of the lower table.
+const LEFT: [u64; 4] = [
+    PARTIAL_L2 + ENTRY,
+    PARTIAL_L1 + 7 * ENTRY,
+    PAGE,
+    NEVER_TAKEN,
+];
+
+// A call for one frame and level, by a gate that says yes at one ask; at none, where that is 0: lines of cells behind those of the tree, the frame, the level,
+// and that ask; the answer; and the kind words of frames 0 to 3 and the first old word afterwards.
+const CASES: [(&str, u64, u8, u64, Result<u32, Stop>, [u64; 4], u64); 10] = [
+    ("", 0, 2, 0, Ok(0), WHOLE, 0),
+    // a second entry leads to the lower table
+    (
+        "cell 0 9 1 0x1001\n",
+        0,
+        2,
+        0,
+        Ok(0),
+        [LIVE_L2, LIVE_L1 + 1, PAGE, NEVER_TAKEN],
+        0,
+    ),
+    (
+        "cell 1 7 1 0x4003\n",
+        0,
+        2,
+        0,
+        Err(Stop::Refused(FOREIGN)),
+        LEFT,
+        1,
+    ),
+    (
+        "cell 1 7 1 0x200b\n",
+        0,
+        2,
+        0,
+        Err(Stop::Refused(RESERVED)),
+        LEFT,
+        1,
+    ),
+    (
+        "cell 1 0 1 0x1003\n",
+        1,
+        1,
+        0,
+        Err(Stop::Refused(OF_ITSELF)),
+        [NEVER_TAKEN, PARTIAL_L1, NEVER_TAKEN, NEVER_TAKEN],
+        2,
+    ),
+    (
+        "",
+        4,
+        2,
+        0,
+        Err(Stop::Refused(FOREIGN)),
+        [NEVER_TAKEN; 4],
+        0,
+    ),
+    // behind entry 1 of the lower table
+    (
+        "",
+        0,
+        2,
+        2,
+        Err(Stop::Paused(Pause::Due)),
+        [KEPT_L2 + ENTRY, PARTIAL_L1 + 2 * ENTRY, PAGE, NEVER_TAKEN],
+        0,
+    ),
+    // behind entry 272, as the gate is not asked behind entries 256 to 271
+    (
+        "",
+        3,
+        4,
+        257,
+        Err(Stop::Paused(Pause::Due)),
+        [NEVER_TAKEN, NEVER_TAKEN, NEVER_TAKEN, KEPT_L4 + 273 * ENTRY],
+        0,
+    ),
+    // nor behind the last one
+    (
+        "",
+        3,
+        1,
+        512,
+        Ok(3),
+        [NEVER_TAKEN, NEVER_TAKEN, NEVER_TAKEN, LIVE_L1],
+        0,
+    ),
+    // the gate is asked 1022 times
+    ("", 0, 2, 1023, Ok(0), WHOLE, 0),
+];
 
 // The board of the tree with these lines behind.
 fn tree_with(rt: &(impl Abort + AllocGlobal), cells: &str) -> PlainBoard
     ensures { TakesFresh result }
 {
     let text = format!(in rt.alloc(); "{TREE}{cells}end\n").expect(rt, "memory");
-    let (board, _) = opened(rt.alloc(), text.as_str()).expect(rt, "a board");
-    board
+    board_at(rt, text.as_str())
 }
 
 fn yes_at(rt: &(impl Abort + AllocGlobal), ask: u64) -> Listed {
@@ -108,156 +225,67 @@ fn take_twice<P: Port>(
 }
 
 // The kind words of frames 0 to 3.
-fn kinds_of<P: Port>(port: &mut P) -> Option<[KindWord; 4]> {
+fn kinds_of<P: Port>(port: &mut P) -> Option<[u64; 4]> {
     if port.layout().frames < 4 {
         return None;
     }
     Some([
-        KindWord::read(look_kind(port, 0))?,
-        KindWord::read(look_kind(port, 1))?,
-        KindWord::read(look_kind(port, 2))?,
-        KindWord::read(look_kind(port, 3))?,
+        look_kind(port, 0),
+        look_kind(port, 1),
+        look_kind(port, 2),
+        look_kind(port, 3),
     ])
+}
+
+// The answer to one call, and what it leaves: the kind words, and the first old word.
+fn taken(
+    rt: &(impl Abort + AllocGlobal),
+    cells: &str,
+    f: u64,
+    level: u8,
+    ask: u64,
+) -> (Option<Result<u32, Stop>>, Option<[u64; 4]>, u64) {
+    let mut gate = yes_at(rt, ask);
+    let mut board = tree_with(rt, cells);
+    let mut port = at_work(rt, &mut board);
+    let answer = take_once(&mut port, &mut gate, f, level);
+    let kinds = kinds_of(&mut port);
+    (answer, kinds, look_old(&mut port, OldWord::First))
 }
 
 #[test]
 fn a_table_is_taken_with_what_its_entries_ask(rt: HostRuntime) {
-    let none = dead_kind(PageType::None, false, 0);
-    let page = live_kind(PageType::Writable, 1);
-    let lower = live_kind(PageType::L1, 1);
-    let tree = Case {
-        cells: "",
-        frame: 0,
-        level: 2,
-        yes_at: 0,
-        answer: Ok(0),
-        kinds: [live_kind(PageType::L2, 1), lower, page, none],
-        named: 0,
-    };
-    // stopped at entry 7 of the lower table
-    let left = [
-        partial_kind(PageType::L2, false, 1),
-        partial_kind(PageType::L1, false, 7),
-        page,
-        none,
-    ];
-    let foreign = Err(Stop::Refused(Refusal::WrongOwner {
-        frame: 4,
-        found: OF_ANOTHER,
-    }));
-    let cases = [
-        tree,
-        // a second entry leads to the lower table
-        Case {
-            cells: "cell 0 9 1 0x1001\n",
-            kinds: [
-                live_kind(PageType::L2, 1),
-                live_kind(PageType::L1, 2),
-                page,
-                none,
-            ],
-            ..tree
-        },
-        Case {
-            cells: "cell 1 7 1 0x4003\n",
-            answer: foreign,
-            kinds: left,
-            named: 1,
-            ..tree
-        },
-        Case {
-            cells: "cell 1 7 1 0x200b\n",
-            answer: Err(Stop::Refused(Refusal::Reserved {
-                frame: 1,
-                index: 7,
-                entry: 0x200b,
-            })),
-            kinds: left,
-            named: 1,
-            ..tree
-        },
-        // a table that maps itself writable, with the word of an L1 table in work
-        Case {
-            cells: "cell 1 0 1 0x1003\n",
-            frame: 1,
-            level: 1,
-            answer: Err(Stop::Refused(Refusal::OtherType {
-                frame: 1,
-                want: PageType::Writable,
-                found: 0x0011_0000_0000_0000,
-            })),
-            kinds: [none, partial_kind(PageType::L1, false, 0), none, none],
-            named: 2,
-            ..tree
-        },
-        Case {
-            frame: 4,
-            answer: foreign,
-            kinds: [none, none, none, none],
-            ..tree
-        },
-        // behind entry 1 of the lower table
-        Case {
-            yes_at: 2,
-            answer: Err(Stop::Paused(Pause::Due)),
-            kinds: [
-                partial_kind(PageType::L2, true, 1),
-                partial_kind(PageType::L1, false, 2),
-                page,
-                none,
-            ],
-            ..tree
-        },
-        // behind entry 272, as the gate is not asked behind entries 256 to 271
-        Case {
-            frame: 3,
-            level: 4,
-            yes_at: 257,
-            answer: Err(Stop::Paused(Pause::Due)),
-            kinds: [none, none, none, partial_kind(PageType::L4, true, 273)],
-            ..tree
-        },
-        // nor behind the last one
-        Case {
-            frame: 3,
-            level: 1,
-            yes_at: 512,
-            answer: Ok(3),
-            kinds: [none, none, none, lower],
-            ..tree
-        },
-        // the gate is asked 1022 times
-        Case {
-            yes_at: 1023,
-            ..tree
-        },
-    ];
-    for case in cases {
-        let mut board = tree_with(&rt, case.cells);
-        let mut port = at_work(&rt, &mut board);
-        let mut gate = yes_at(&rt, case.yes_at);
-        let answer = take_once(&mut port, &mut gate, case.frame, case.level);
-        assert_eq!(rt; answer, Some(case.answer));
-        assert_eq!(rt; kinds_of(&mut port), Some(case.kinds));
-        assert_eq!(rt; look_old(&mut port, OldWord::First), case.named);
+    for (cells, frame, level, ask, answer, kinds, named) in CASES {
+        let found = taken(&rt, cells, frame, level, ask);
+        assert_eq!(rt; found, (Some(answer), Some(kinds), named), "{cells}{frame}");
     }
+}
+
+// The answers to two calls for the tree, of which the first is paused at an ask, and the kind words behind them.
+fn taken_twice(
+    rt: &(impl Abort + AllocGlobal),
+    ask: u64,
+) -> (
+    Option<Result<u32, Stop>>,
+    Option<Result<u32, Stop>>,
+    Option<[u64; 4]>,
+) {
+    let mut gate = yes_at(rt, ask);
+    let mut board = tree_with(rt, "");
+    let mut port = at_work(rt, &mut board);
+    let (first, second) = take_twice(&mut port, &mut gate, &mut Never::new(), 0, 2);
+    (first, second, kinds_of(&mut port))
 }
 
 // Left within the lower table, which is asked for 511 times, behind it, and within the upper one up to its last ask.
 #[test]
 fn a_table_is_taken_on_where_it_was_left(rt: HostRuntime) {
     for ask in [1, 2, 511, 512, 513, 1022] {
-        let mut board = tree_with(&rt, "");
-        let mut port = at_work(&rt, &mut board);
-        let mut gate = yes_at(&rt, ask);
-        let answers = take_twice(&mut port, &mut gate, &mut Never::new(), 0, 2);
-        assert_eq!(rt; answers, (Some(Err(Stop::Paused(Pause::Due))), Some(Ok(0))));
-        let live = [
-            live_kind(PageType::L2, 1),
-            live_kind(PageType::L1, 1),
-            live_kind(PageType::Writable, 1),
-            dead_kind(PageType::None, false, 0),
-        ];
-        assert_eq!(rt; kinds_of(&mut port), Some(live));
+        let paused = Some(Err(Stop::Paused(Pause::Due)));
+        assert_eq!(rt;
+            taken_twice(&rt, ask),
+            (paused, Some(Ok(0)), Some(WHOLE)),
+            "{ask}"
+        );
     }
 }

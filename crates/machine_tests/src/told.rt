@@ -1,6 +1,5 @@
 //! A run with a line for each of its steps behind the report.
-use crate::runs::{runs_by, word};
-use std::process::Abort;
+use crate::runs::answers;
 use xp_machine::Status;
 
 // Entry 0 maps frame 1 writable, and entry 1 maps frame 2 read-only. The pin is paused behind each, and two turns do not finish it.
@@ -67,17 +66,14 @@ step 0 kind kind 0 store 0x12802000000000 found 0x11000000000000
 step 0 run vcpu 0 run store 0x1 found 0x0
 "#;
 
-fn words(rt: &(impl Abort + AllocGlobal)) -> Vec<String> {
-    vec![in rt.alloc();
-        word(rt, "turns"),
-        word(rt, "--preempt"),
-        word(rt, "1"),
-        word(rt, "--steps"),
-    ]
-    .expect(rt, "memory")
-}
-
 #[test]
 fn each_step_of_a_paused_pin_is_told(rt: HostRuntime) {
-    runs_by(&rt, &words(&rt), PIN, usize::MAX, Status::Done, TOLD);
+    answers(
+        &rt,
+        "turns --preempt 1 --steps",
+        PIN,
+        usize::MAX,
+        Status::Done,
+        TOLD,
+    );
 }
