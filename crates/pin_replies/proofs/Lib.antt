@@ -1,0 +1,5 @@
+pub mod Elements
+pub mod Turning
+pub mod Fresh
+pub mod Threads
+pub mod ByTurns
