@@ -44,7 +44,7 @@ pub keeps_first : (P : ExtOp → Type 0) (n : Machine) (scripts : List (List Op)
 keeps_first P n scripts s c is =
     let fresh = first_fresh n scripts s c is in
     record {
-      old = λ i list reply at in_it. absurd (nothing_in (lines.Answer (i + 1) 0 reply) (subst (λ xs. Contains xs (lines.Answer (i + 1) 0 reply)) fresh.log in_it));
+      old = λ op call list reply place in_it. absurd (nothing_in (lines.Answer op call reply) (subst (λ xs. Contains xs (lines.Answer op call reply)) fresh.log in_it));
       now = λ list next k e less. absurd (let none = ap (λ (p : Progress). p.done) fresh.at in omega arith);
     }
 

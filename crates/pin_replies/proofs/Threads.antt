@@ -66,4 +66,4 @@ module _ (runs : RunsSound) (rests : RestsSound) (b : BoardValue) (scripts : Lis
       let w = port_with b s r.lender (hand_of ran.hands s) in
       let kept = took_keeps o r.gate c0 o r.asked c w r.turns (record { came = came_self o; keeps = keeps_first (Did o o) b.machine scripts s c0 at0 }) in
       did_whole b.machine b.opening ran.run.one.log (record { words = words; hands = ran.hands }) o w (opened_sound rests b.machine b.opening words ran.hands ran.run) runs ran.run.one.run refl (none_told b.machine s empty refl) refl e
-      (kept.keeps.old p.i p.list p.reply p.stands p.answered p.k e p.counted p.element p.pins)
+      (kept.keeps.old p.op p.call p.list p.reply p.stands p.answered p.k e p.counted p.element p.pins)

@@ -1,21 +1,29 @@
 -- Pins whose replies say that they are done.
 use Rattle.std.specs.Prelude.{◌≡◌, ℕ, ◌+◌, ◌<◌, Contains, List, slice_get, Some}
+use Rattle.xp_words.specs.declared.ops.Call.{Call}
 use Rattle.xp_words.specs.declared.ops.Call.TheVariants.{Ext}
 use Rattle.xp_words.specs.declared.ops.ExtOp.{ExtOp}
-use Rattle.xp_words.specs.declared.ops.Op.TheVariants.{One}
+use Rattle.xp_words.specs.declared.ops.Op.{Op}
+use Rattle.xp_words.specs.declared.ops.Op.TheVariants.{Multi, One}
 use Rattle.xp_words.specs.declared.reply.LogLine.TheVariants.{Answer}
 use Rattle.xp_words.specs.declared.reply.Reply.{Reply}
 use Rattle.vcpu_turn.specs.Cpus.{Processing}
 
--- Operation i of the vCPU's script is this list of mmuext_op, its log has that reply to it, and element k of the list, a pin, is among the elements that the
--- reply counts as done. (Operations are numbered from 1 in a log.)
+-- Under these numbers, from 1 on, a log answers this list of mmuext_op: it is that operation of the script, and then the second number is 0; or that call of
+-- one that is a multicall.
+pub data StandsAt (script : List Op) (op call : ℕ) (list : List ExtOp) : Type 0 where
+  alone : (i : ℕ) → op ≡ i + 1 → call ≡ 0 → slice_get script i ≡ Some (One (Ext list)) → StandsAt script op call list
+  called : (i j : ℕ) (calls : List Call) → op ≡ i + 1 → call ≡ j + 1 → slice_get script i ≡ Some (Multi calls) → slice_get calls j ≡ Some (Ext list) → StandsAt script op call list
+
+-- The vCPU's log has that reply to such a list, and element k of the list, a pin, is among the elements that the reply counts as done.
 pub record RepliedPin (c : Processing) (e : ExtOp) : Type 0 where
-  pub i : ℕ
+  pub op : ℕ
+  pub call : ℕ
   pub k : ℕ
   pub list : List ExtOp
   pub reply : Reply
-  pub stands : slice_get c.script i ≡ Some (One (Ext list))
-  pub answered : Contains c.log (Answer (i + 1) 0 reply)
+  pub stands : StandsAt c.script op call list
+  pub answered : Contains c.log (Answer op call reply)
   pub counted : k < reply.done
   pub element : slice_get list k ≡ Some e
   pub pins : e.command < 4

@@ -15,4 +15,4 @@ returns c t gates closed ran s cpu e formed at p =
     let keeps =
     works_whole c.every_run_stays_sound.ensures n ran.opened sound (order t.turns) (stage (opened_story n ran.opened) (first_cpus n t.scripts) (first_gates n gates)) closed ran.works refl
     (λ u d here. keeps_first (WasWhole n ran.opened []) n t.scripts u d here) s cpu at in
-    keeps.old p.i p.list p.reply p.stands p.answered p.k e p.counted p.element p.pins
+    keeps.old p.op p.call p.list p.reply p.stands p.answered p.k e p.counted p.element p.pins
