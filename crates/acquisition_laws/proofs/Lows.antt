@@ -2,6 +2,7 @@
 use Rattle.std.proofs.Common.{◌≡◌, ℕ, ◌<◌, ◌^◌, Bool, true, false, List, Ok, subst, sym, arith, if◌then◌else◌}
 use Rattle.xp_words.specs.Entries.{demand_at}
 use Rattle.xp_words.specs.KindWords.{kind_fields}
+use Rattle.xp_words.proofs.KindLaws.{fields_in_range}
 use Rattle.xp_words.specs.Machine.{Machine}
 use Rattle.xp_words.specs.declared.entry.Demand.{Demand}
 use Rattle.xp_words.specs.declared.entry.Demand.TheVariants as demands
@@ -29,10 +30,6 @@ IsLow types.Counted = Unit {0}
 IsLow (types.InWork progress own) = progress < 2 ^ 10
 IsLow (types.Waiting own stamp stop) = stamp < 2 ^ 36
 
-pub field_low : (x : ℕ) → (kind_fields x).progress < 2 ^ 10
-unfolding kind_fields
-field_low x = omega arith
-
 progress_low : (b : Bool) (p : ℕ) → p < 2 ^ 10 → (if b then p else 0) < 2 ^ 10
 progress_low true p low = low
 progress_low false p low = omega arith
@@ -47,7 +44,7 @@ takes_low : (q : Post) (f owner : ℕ) (want : PageType) (x : ℕ) (s : Standing
 takes_low q f owner want x s types.Counted vs way a = tt
 takes_low q f owner want x stands.Counted (types.InWork progress own) vs way a = absurd cc
 takes_low q f owner want x stands.Counted (types.Waiting own stamp stop) vs way a = absurd cc
-takes_low q f owner want x s (types.InWork progress own) vs way a = subst (λ n. n < 2 ^ 10) (sym way.2) (progress_low (kind_fields x).partial (kind_fields x).progress (field_low x))
+takes_low q f owner want x s (types.InWork progress own) vs way a = subst (λ n. n < 2 ^ 10) (sym way.2) (progress_low (kind_fields x).partial (kind_fields x).progress (fields_in_range x).1)
 takes_low q f owner want x s (types.Waiting own stamp stop) vs way a = goes_low q f owner want (waits_by (kind_fields x) want s) x (is_own (kind_fields x) s) own stamp stop a.next.after way.0 a.next.next
 
 pub taken_low : {q : Post} {f owner : ℕ} {want : PageType} {t : Taken} {vs : List Visit} → TakesOf q f owner want t vs → IsLow t

@@ -29,6 +29,7 @@ use Rattle.xp_board.proofs.KindForms.{table_levels}
 use Rattle.xp_board.proofs.Recordless.{closing_busy, idle_held}
 use Rattle.xp_board.proofs.Sums.{hands-some, one_is}
 use Rattle.xp_board.proofs.RefWords.{dying_says, owned_says}
+use Rattle.xp_board.proofs.Counted.{names_typed-asks}
 use Rattle.dead_domains.specs.Holders.{HasInHand, HeldByOthers, IsNamed, IsOther, IsOthersTable, LeftToOthers, referred, works, ends, looks, by_word, by_hand, by_entry, by_table}
 use Rattle.dead_domains.proofs.Counting.{NamedBy, SomeEntry, SomeWord, TypedBy, entry_name, word_name, allocated_name, pinned_name, kept_name, hand_name, entry_type, word_type, pinned_type, kept_type, hand_type, who_names, who_types}
 
@@ -51,13 +52,6 @@ names_is g Nothing some = absurd (omega arith)
 names_is g Bad some = absurd (omega arith)
 names_is g (Read f) some = inl (ap Read (one_is g f some))
 names_is g (Typed f t) some = inr (t, ap (λ x. Typed x t) (one_is g f some))
-
-types_is : (g : ℕ) (d : Demand) → 0 < names_typed g d → (t : PageType) × (d ≡ Typed g t)
-unfolding names_typed
-types_is g Nothing some = absurd (omega arith)
-types_is g Bad some = absurd (omega arith)
-types_is g (Read f) some = absurd (omega arith)
-types_is g (Typed f t) some = (t, ap (λ x. Typed x t) (one_is g f some))
 
 typed_names : (g : ℕ) (d : Demand) → 0 < names_typed g d → 0 < names g d
 unfolding names names_typed
@@ -195,7 +189,7 @@ module _ (n : Machine) (m : Place → ℕ) (h : ℕ → Holdings) (d : ℕ) (sou
 
   above : (g : ℕ) → owner_of (m (Refs g)) ≡ Some d → type_number (kind_at m g).kind ≤ 4 → (e : SomeEntry (names_typed g) (sizes_of n) m h) → IsAbove e.table g
   above g own table e =
-      let t = types_is g (entry_demand m e.table e.index) e.counted in
+      let t = names_typed-asks g (entry_demand m e.table e.index) e.counted in
       let same = sound.counts.kinds.entries e.table e.index g t.0 e.recorded t.1 in
       let under = above_is (kind_at m e.table).kind e.index (m (Cell e.table e.index)) g t.0 t.1 in
       let level = level_above (kind_at m e.table).kind (kind_at m g).kind (under ∙ sym same) table in

@@ -7,14 +7,14 @@ use Rattle.xp_words.specs.declared.place.Place.{Place}
 use Rattle.xp_words.specs.declared.place.Place.TheVariants.{Cell, Kind, Refs}
 use Rattle.xp_words.specs.declared.reply.Stop.{Stop}
 use Rattle.xp_board.specs.Acts.{left_by}
-use Rattle.xp_board.specs.declared.step.Act.TheVariants.{Cas, Store}
+use Rattle.xp_board.specs.declared.step.Act.TheVariants.{Store}
 use Rattle.xp_board.specs.Told.{PortValue, is_telling, told_word}
 use Rattle.step_maker.specs.Moves.{Came}
 use Rattle.step_maker.proofs.Coming.{moves_came}
 use Rattle.step_maker.proofs.Telling.{told_elsewhere, told_here, told_there}
+use Rattle.step_maker.proofs.Noting.{swapped}
 use Rattle.table_law.specs.Alone.{PlainOutcome}
 use Rattle.table_law.specs.Plain.{Describes, Plain, share_of, sober}
-use Rattle.course_laws.proofs.Completing.{itself}
 use Rattle.entry_exchange.specs.Course as course
 use Rattle.entry_exchange.specs.Course.{PutEntry}
 use Rattle.table_law.specs.Exchange.{with_cell}
@@ -25,10 +25,6 @@ record IsPut (v y : PortValue) (f i old new : ℕ) : Type 0 where
   pub was : told_word v (Cell f i) ≡ old
   pub is : told_word y (Cell f i) ≡ new
   pub others : (q : Place) → q ≢ Cell f i → told_word y q ≡ told_word v q
-
-swapped : (seen new : ℕ) → left_by (Cas seen new) seen ≡ new
-unfolding left_by
-swapped seen new = ap (λ b. if b then new else seen) (itself seen)
 
 written : (old new : ℕ) → left_by (Store new) old ≡ new
 unfolding left_by

@@ -1,8 +1,7 @@
 -- A vCPU that is alone and holds nothing: the map of free frames has the bits of the free frames, and no exchange of a claim is lost.
-use Rattle.std.proofs.Common.{◌≡◌, ℕ, ◌^◌, ◌<◌, Bool, true, false, [], is_some, Option, Result, Ok, Err, refl, sym, ap, ◌∙◌, subst, inl, inr, arith}
+use Rattle.std.proofs.Common.{◌≡◌, ℕ, ◌^◌, ◌<◌, true, [], is_some, Option, Result, Ok, Err, refl, sym, ap, ◌∙◌, subst, inl, inr, arith}
 use Rattle.std.proofs.lemmas.Bool.{cases_eq}
 use Rattle.xp_words.specs.Places.{sizes_of}
-use Rattle.xp_words.specs.RefWords.{bit}
 use Rattle.xp_words.specs.declared.place.Place.TheVariants.{Map, Refs}
 use Rattle.xp_words.specs.declared.reply.Stop.{Stop}
 use Rattle.xp_board.specs.declared.holdings.Holdings.{Holdings}
@@ -12,7 +11,7 @@ use Rattle.xp_board.specs.Readings.{is_free}
 use Rattle.xp_board.specs.Recorded.{hands}
 use Rattle.xp_board.specs.Sound.{hand_of, is_hinted}
 use Rattle.xp_board.specs.Told.{PortValue, Story, is_telling, told_word, word_in}
-use Rattle.xp_board.proofs.Sums.{sum_below-none}
+use Rattle.xp_board.proofs.Sums.{sum_below-none, same_bit}
 use Rattle.step_maker.specs.Asked.{Request, of_block}
 use Rattle.step_maker.specs.Visits.{Does}
 use Rattle.answer_laws.specs.Alone.{IsAlone}
@@ -27,12 +26,6 @@ use Rattle.frame_claims.proofs.Telling.{does_holds, does_told}
 no_times : (f : ℕ) (h : Holdings) → h.raised ≡ [] → times f h.raised ≡ 0
 unfolding times_by
 no_times f h none = rw none refl
-
-same_bit : (a b : Bool) → bit a ≡ bit b → a ≡ b
-same_bit true true e = refl
-same_bit false false e = refl
-same_bit true false e = absurd (omega (arith, e))
-same_bit false true e = absurd (omega (arith, e))
 
 module _ (v : PortValue) (alone : IsAlone v) (empty : IsEmptyHand v.holdings) where
   pub tells : is_telling v ≡ true

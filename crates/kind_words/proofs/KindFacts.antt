@@ -6,8 +6,6 @@ use Rattle.xp_words.specs.declared.kind.KindWord.{KindWord}
 use Rattle.xp_words.specs.declared.kind.PageType.{PageType}
 use Rattle.xp_words.specs.declared.place.Place.{Place}
 use Rattle.xp_words.specs.declared.place.Place.TheVariants.{Clock, Refs, Kind}
-use Rattle.xp_words.specs.declared.refs.RefWord.{RefWord}
-use Rattle.xp_words.specs.declared.refs.RefWord.TheVariants.{Free, Owned, Dying}
 use Rattle.xp_words.specs.KindWords.{is_kind, kind_read, kind_fields, kind_write}
 use Rattle.xp_words.specs.Places.{Sizes, sizes_of, is_place}
 use Rattle.xp_words.specs.RefWords.{ref_read}
@@ -17,12 +15,12 @@ use Rattle.xp_board.specs.declared.holdings.Work.{Work}
 use Rattle.xp_board.specs.Hands.{refs_to, typed_to, hand, typed_hand, works_on, work_on, without_work}
 use Rattle.xp_board.specs.Knowledge.{knows_owner, knows_live}
 use Rattle.xp_board.specs.KindSteps.{MayDrop}
-use Rattle.xp_board.specs.Readings.{kind_at, is_live, is_partial, is_dead, owner_of, ref_count, count_in, type_count, kind_stamp}
+use Rattle.xp_board.specs.Readings.{kind_at, is_live, is_partial, is_dead, owner_of, ref_count, type_count, kind_stamp}
 use Rattle.xp_board.specs.Recorded.{CountsAgree}
 use Rattle.xp_board.specs.Sound.{is_busy}
 use Rattle.xp_board.specs.Spelling.{IsSpelling, is_kind_in, is_ref_in}
 use Rattle.xp_board.specs.Told.{Finds}
-use Rattle.xp_board.proofs.RefWords.{owned_fits}
+use Rattle.xp_board.proofs.RefForms.{count_fits}
 use Rattle.xp_board.proofs.Counted.{typed_counted, entries-fewer, hand_is}
 use Rattle.xp_board.proofs.HeldByForm.{live_idle}
 use Rattle.xp_board.proofs.KindForms.{fields_of, live_unmarked, marked_unlive}
@@ -94,15 +92,9 @@ types_beside z m h s f real counts =
     let mine = hands-part (λ u. refs_to f u.refs) z h s real in
     omega (arith, all, typed, fewer, both, mine)
 
-count_by : (n : Machine) (o : Option RefWord) → IsTrue (is_ref_in n o) → count_in o ≤ n.limit
-count_by n (Some (Free stamp)) is = omega arith
-count_by n (Some (Owned owner allocated count)) is = (owned_fits n owner count allocated is).1
-count_by n (Some (Dying owner)) is = omega arith
-count_by n None is = omega arith
-
 count_within : (n : Machine) (w : ℕ) → IsTrue (is_ref_in n (ref_read w)) → ref_count w ≤ n.limit
 unfolding ref_count
-count_within n w is = count_by n (ref_read w) is
+count_within n w is = count_fits n (ref_read w) is
 
 -- the number of a live word that was found by a vCPU with an untyped reference is below the limit
 pub type_is_below : (n : Machine) (s : ℕ) (h : Holdings) (f w : ℕ) (k : KindWord) → f < n.frames → Finds n s h (Kind f) w → kind_fields w ≡ k → IsTrue (is_live k) → 0 < refs_to f h.refs → k.number < n.limit

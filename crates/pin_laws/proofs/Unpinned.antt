@@ -33,6 +33,7 @@ use Rattle.partial_state.proofs.LevelFacts.{level_type-table, level_type-typed}
 use Rattle.table_law.specs.Lawful.{IsAtRest}
 use Rattle.table_law.specs.Plain.{plain_of}
 use Rattle.table_entries.specs.Acquiring.{Acquired, GotRef, MadeLive, TookType, counted, finished, outermost_table, type_counts, unfinished, unreferred, untyped, waiting}
+use Rattle.table_entries.proofs.Shared.{few_counts}
 use Rattle.mmuext_ops.specs.Course.{IsPinnedAs, is_pinned}
 use Rattle.course_laws.specs.Courses.{IsOrderly}
 use Rattle.course_laws.proofs.Frames.{IsFrame, count_at}
@@ -44,10 +45,6 @@ use Rattle.pin_laws.proofs.Looking.{kind_apart}
 use Rattle.course_laws.proofs.Outermost.{worked_outermost}
 
 -- ---- made live
-few_counts : (own : Bool) → type_counts own < 2 ^ 26
-few_counts true = omega arith
-few_counts false = omega arith
-
 live_unpinned : (l : ℕ) (own : Bool) → is_pinned (kind_write (live_kind (level_type l) (type_counts own))) ≡ false
 live_unpinned l own =
     ap (λ (k : KindWord). k.pinned) (fields_write (live_kind (level_type l) (type_counts own)) (live_is (level_type l) (level_type-typed l) (type_counts own) (few_counts own)))

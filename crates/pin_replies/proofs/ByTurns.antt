@@ -15,7 +15,7 @@ use Rattle.shared_board.specs.Board.{state_of}
 use Rattle.vcpu_turn.specs.Cpus.{Processing}
 use Rattle.xp_machine.specs.Pieces.{Leads, Piece, log_by}
 use Rattle.xp_machine.specs.Turns as staged
-use Rattle.xp_machine.specs.Turns.{ByCpu, InOrder, IsStagedStop, IsStagedTurn, MakesStagedStop, MakesStagedTurn, Stage, UnlessRetired, WorksOff, port_on, stage}
+use Rattle.xp_machine.specs.Turns.{ByCpu, InOrder, MakesStagedStop, MakesStagedTurn, Stage, UnlessRetired, WorksOff, port_on}
 use Rattle.whole_trees.proofs.Hands.{run_told}
 use Rattle.pin_replies.proofs.Fresh.{WasWhole, did_whole}
 use Rattle.pin_replies.proofs.Turning.{Keeps, keeps_more, turn_keeps}

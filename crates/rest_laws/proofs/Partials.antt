@@ -1,5 +1,5 @@
 -- What is unfinished in words of which nobody has anything in hand, and what leads to it.
-use Rattle.std.proofs.Common.{◌≡◌, ◌≢◌, ◌⊎◌, ◌+◌, ◌-◌, ◌<◌, ◌≤◌, ◌&&◌, not, ℕ, zero, suc, Bool, true, false, if◌then◌else◌, Option, Some, None, IsTrue, refl, sym, ap, ◌∙◌, subst, inl, inr, arith}
+use Rattle.std.proofs.Common.{◌≡◌, ◌≢◌, ◌⊎◌, ◌+◌, ◌-◌, ◌<◌, ◌≤◌, ◌&&◌, not, ℕ, zero, suc, Bool, true, false, if◌then◌else◌, Some, IsTrue, refl, sym, ap, ◌∙◌, subst, inl, inr, arith}
 use Rattle.std.proofs.lemmas.Bool.{cases_Bool, cases_eq}
 use Rattle.std.proofs.lemmas.Bool.Decides.{nat_tests}
 use Rattle.xp_words.specs.Machine.{Machine}
@@ -14,21 +14,21 @@ use Rattle.xp_words.specs.declared.kind.KindWord.{KindWord}
 use Rattle.xp_words.specs.declared.kind.PageType.{PageType}
 use Rattle.xp_words.specs.declared.kind.PageType.TheVariants as kinds
 use Rattle.xp_words.specs.declared.place.Place.TheVariants.{Kind, Refs, Vcpu}
-use Rattle.xp_words.specs.declared.refs.RefWord.{RefWord}
-use Rattle.xp_words.specs.declared.refs.RefWord.TheVariants.{Dying, Free, Owned}
 use Rattle.xp_board.specs.declared.holdings.Holdings.{Holdings}
 use Rattle.xp_board.specs.declared.holdings.Work.{Work}
 use Rattle.xp_board.specs.Hands.{IsEmptyHand, locks_on, typed_hand, work_on}
 use Rattle.xp_board.specs.Lists.{first_by, one_at, times_by}
-use Rattle.xp_board.specs.Readings.{count_in, is_context, is_dead, is_live, is_partial, kind_at, ref_count, type_count}
+use Rattle.xp_board.specs.Readings.{is_context, is_dead, is_live, is_partial, kind_at, ref_count}
 use Rattle.xp_board.specs.Recorded.{contexts, entries, entry_demand, held, marks, hands, names_typed, table_entries}
 use Rattle.xp_board.specs.Sound.{Sound, Spelled, is_busy}
 use Rattle.xp_board.specs.Readings.{is_locked}
-use Rattle.xp_board.specs.Spelling.{IsSpelling, is_kind_in, is_ref_in}
+use Rattle.xp_board.specs.Spelling.{IsSpelling, is_kind_in}
 use Rattle.xp_board.specs.Valid.{LeadsWell, is_live_context}
 use Rattle.xp_board.proofs.Sums.{hands-some, one_is, some_of as when_some, sum_below-some}
+use Rattle.xp_board.proofs.Counted.{names_typed-asks}
 use Rattle.xp_board.proofs.KindReadings.{partial_parts}
 use Rattle.xp_board.proofs.KindForms.{PartialForm, partial_form, table_levels}
+use Rattle.xp_board.proofs.RefForms.{count_fits}
 use Rattle.xp_board.proofs.HeldByForm.{live_partial}
 use Rattle.xp_board.proofs.Works.{in_works}
 use Rattle.step_maker.specs.Plain.{Words}
@@ -82,13 +82,6 @@ unfolding type_asked demand_at demand_of
 asks_lower t u i w g asks = ap (type_asked (type_below_of t)) (sym asks) ∙ asked_by (is_slot t i) (not (is_bit 0 w)) (is_reserved (is_lowest t) w) (is_lowest t && not (is_bit 1 w)) (frame_of w) (type_below_of t)
 
 -- ---- what names a frame with its type
-names_it : (g : ℕ) (d : Demand) → 0 < names_typed g d → (t : PageType) × (d ≡ Typed g t)
-unfolding names_typed
-names_it g Nothing some = absurd (omega arith)
-names_it g Bad some = absurd (omega arith)
-names_it g (Read f) some = absurd (omega arith)
-names_it g (Typed f t) some = (t, ap (λ j. Typed j t) (one_is g f some))
-
 record IsEntry (z : Sizes) (m : Words) (h : ℕ → Holdings) (g : ℕ) : Type 0 where
   table : ℕ
   inside : table < z.frames
@@ -157,7 +150,7 @@ module _ (n : Machine) (m : Words) (h : ℕ → Holdings) (sound : Sound n m h) 
 
   by_entry : (g : ℕ) → IsTrue (is_partial (kind_at m g)) → IsEntry (sizes_of n) m h g → IsNamed n m g
   by_entry g partial e =
-      let t = names_it g (entry_demand m e.table e.index) e.asks in
+      let t = names_typed-asks g (entry_demand m e.table e.index) e.asks in
       below (led_to g e.table e.index t.0 partial e.inside e.recorded t.1 (sound.valid.live e.table e.index g t.0 e.recorded t.1))
 
   by_word : (g : ℕ) → IsTrue (is_partial (kind_at m g)) → IsWord (sizes_of n) m g → IsNamed n m g
@@ -249,19 +242,13 @@ form_left k dead partial busy = grind (arith, nat_tests)
 count_left : (k : KindWord) → k.validated ≡ true → is_busy k ≡ false → 0 < k.number
 count_left k live busy = grind (arith, nat_tests)
 
-few_in : (n : Machine) (o : Option RefWord) → IsTrue (is_ref_in n o) → count_in o ≤ n.limit
-few_in n (Some (Free stamp)) is = omega arith
-few_in n (Some (Owned owner allocated count)) is = grind (arith, nat_tests)
-few_in n (Some (Dying owner)) is = omega arith
-few_in n None is = absurd cc
-
 real_refs : (n : Machine) (g : ℕ) → g < n.frames → IsTrue (is_place (sizes_of n) (Refs g))
 unfolding is_place
 real_refs n g inside = grind (arith, nat_tests)
 
 few_there : (n : Machine) (m : Words) (g : ℕ) → Spelled n m → g < n.frames → ref_count (m (Refs g)) ≤ n.limit
 unfolding IsSpelling ref_count
-few_there n m g spelled inside = few_in n (ref_read (m (Refs g))) (spelled.spelled (Refs g) (real_refs n g inside))
+few_there n m g spelled inside = count_fits n (ref_read (m (Refs g))) (spelled.spelled (Refs g) (real_refs n g inside))
 
 pub at_rest : (n : Machine) (m : Words) (h : ℕ → Holdings) → Sound n m h → IsNothingLeft n m h → IsAtRest n m
 at_rest n m h sound left =

@@ -44,11 +44,6 @@ after_left c to log (ends.Answered reply) = refl
 after_left c to log (ends.Paused p) = refl
 after_left c to log ends.Retired = refl
 
-pub after_retired : (c : Processing) (to : Progress) (log : List LogLine) (end : TurnEnd) → (after_turn c to log end).retired ≡ c.retired
-after_retired c to log (ends.Answered reply) = refl
-after_retired c to log (ends.Paused p) = refl
-after_retired c to log ends.Retired = refl
-
 pub next_left : (c : Processing) (o : Option Op) (d : Processing) (v w : PortValue) (answers : List Bool) (end : TurnEnd) → DoesNext (nothing_left c) o d v w answers end → d.left ≡ None
 next_left c (Some op) d v w answers end does = ap (λ (x : Processing). x.left) does.cpu ∙ after_left (nothing_left c) does.to does.log end
 next_left c None d v w answers end does = ap (λ (x : Processing). x.left) does.cpu

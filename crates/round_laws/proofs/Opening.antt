@@ -1,10 +1,10 @@
 -- A machine at its opening, and behind so many rounds.
-use Rattle.std.proofs.Common.{◌≡◌, ℕ, ◌<◌, ◌≤◌, inl, inr, All, List, [], ap, length, map, Some, None, refl, sym, ◌∙◌, subst, slice_get, slice_index_or, arith}
+use Rattle.std.proofs.Common.{◌≡◌, ℕ, ◌<◌, ◌≤◌, All, List, [], ap, length, map, Some, refl, sym, ◌∙◌, subst, slice_get, slice_index_or, arith}
 use Rattle.std.specs.List.{enumerate_from}
 use Rattle.std.proofs.lemmas.List.{get_or-map, get_or-replicate, length-map, length-replicate}
 use Rattle.std.proofs.lemmas.List.Elements.{All-map}
 use Rattle.std.proofs.lemmas.List.FromFn.{get_or-enumerate_from, length-enumerate_from}
-use Rattle.std.proofs.lemmas.Option.{get_or_from_slice_get, slice_get-get_or, slice_get_cases, slice_get_within}
+use Rattle.std.proofs.lemmas.Option.{get_or_from_slice_get, slice_get-get_or, slice_get_within}
 use Rattle.xp_words.specs.Machine.{Machine}
 use Rattle.xp_words.specs.Places.{memory, sizes_of}
 use Rattle.xp_words.specs.declared.ops.Op.{Op}
@@ -19,7 +19,8 @@ use Rattle.trace_text.specs.declared.trace.Trace.{Trace}
 use Rattle.machine_build.specs.Opening.{IsOpening, opening_at}
 use Rattle.shared_board.specs.Board.{opened_story}
 use Rattle.shared_board.proofs.Opened.{start_sound}
-use Rattle.vcpu_turn.specs.Cpus.{Processing, fresh, job_next, next_of, pending_of}
+use Rattle.vcpu_turn.specs.Cpus.{Processing, fresh, job_next, pending_of}
+use Rattle.vcpu_turn.proofs.TurnSteps.{none_pending}
 use Rattle.vcpu_runners.specs.Cpus.{first_cpu, first_cpus}
 use Rattle.xp_machine.specs.Turns.{IsStagedTurn, Stage, Turns, more, none, stage}
 use Rattle.xp_machine.proofs.Reaching.{empty_idles, first_at}
@@ -79,21 +80,14 @@ module _ (steady_behind : SteadyBehind) (n : Machine) where
   turns_steady _ s _ steady (more vs v _ m s' turns turn) = steady_behind n v m s' (turns_steady vs s m steady turns) turn
 
 -- ---- the end
-no_more_pending : (c : Processing) → next_of c ≡ None → pending_of c ≡ 0
-no_more_pending c ended =
-    elim ((slice_get_cases c.script c.answered).1) [
-      | inl here ↦ absurd (let some = here.2 in cc)
-      | inr past ↦ (let far = past.0 in omega arith)
-    ]
-
-none_pending : (n : Machine) (s : Stage) → IsSteady n s → AreAllRetired s → All (λ k. k ≡ 0) (map pending_of s.cpus)
-none_pending n s steady all =
+none_pending_of : (n : Machine) (s : Stage) → IsSteady n s → AreAllRetired s → All (λ k. k ≡ 0) (map pending_of s.cpus)
+none_pending_of n s steady all =
     All-map (λ k. k ≡ 0) pending_of s.cpus
     (λ i d within.
     let here = slice_get-get_or s.cpus i d within in
-    no_more_pending (slice_index_or s.cpus i d) ((steady.each i (slice_index_or s.cpus i d) here).ended (retired_at s.cpus i (slice_index_or s.cpus i d) all here)))
+    none_pending (slice_index_or s.cpus i d) ((steady.each i (slice_index_or s.cpus i d) here).ended (retired_at s.cpus i (slice_index_or s.cpus i d) all here)))
 
 pub answered_in_rounds : SteadyBehind → AllRetire → (n : Machine) (rounds : List (List ℕ)) (s s' : Stage) → IsSteady n s → All (IsRound n) rounds → Turns n (turns_in_rounds rounds) s s' →
     words_of n s' Clock < last_clock → rounds_to_go n s ≤ length rounds → All (λ k. k ≡ 0) (map pending_of s'.cpus)
 answered_in_rounds steady_behind all_retire n rounds s s' steady all turns low enough =
-    none_pending n s' (turns_steady steady_behind n (turns_in_rounds rounds) s s' steady turns) (all_retire n rounds s s' steady all turns low enough)
+    none_pending_of n s' (turns_steady steady_behind n (turns_in_rounds rounds) s s' steady turns) (all_retire n rounds s s' steady all turns low enough)

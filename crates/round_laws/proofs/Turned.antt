@@ -26,12 +26,13 @@ use Rattle.vcpu_turn.specs.declared.cpu.TurnEnd.TheVariants as ends
 use Rattle.vcpu_turn.proofs.Turns.{begins_came}
 use Rattle.vcpu_turn.specs.Unhindered.{IsSparedBy, IsSparedIn, IsUnhindered}
 use Rattle.vcpu_turn.proofs.Hindering.{settles_came}
+use Rattle.vcpu_turn.proofs.TurnSteps.{after_retired}
 use Rattle.frame_ranks.specs.Ranks.{AreAllAlive, GetsFurther, GoesForward, rank_at}
 use Rattle.turn_measures.specs.Measures.{DestroysNothing, IsSparingJob, IsWithin, KeepsLeft, StaysAt, ahead, bit_named, olds_named}
 use Rattle.turn_measures.proofs.Beginning.{begins_leaves}
 use Rattle.round_laws.proofs.Beginning.{begins_alive, serves_leaves}
 use Rattle.round_laws.proofs.Cited.{TurnLaws}
-use Rattle.round_laws.proofs.Lessening.{Less, by_ahead, by_left, by_olds, by_ranks, TurnLeaves, after_retired, next_left, none_kept, kept_as, apart, less_as, goes_or_waits}
+use Rattle.round_laws.proofs.Lessening.{Less, by_ahead, by_left, by_olds, by_ranks, TurnLeaves, next_left, none_kept, kept_as, apart, less_as, goes_or_waits}
 
 -- ---- the domain lives
 -- the turn works on the next operation, or on what was left

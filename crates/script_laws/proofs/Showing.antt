@@ -1,5 +1,5 @@
 -- Where nothing is left to be settled the words show the whole plain value; and they do behind the step that stops the vCPU.
-use Rattle.std.proofs.Common.{◌≡◌, ◌≢◌, ◌<◌, ℕ, ◌/◌, ◌%◌, None, Bool, true, false, refl, sym, ap, ◌∙◌, subst, arith}
+use Rattle.std.proofs.Common.{◌≡◌, ◌≢◌, ◌<◌, ℕ, ◌/◌, ◌%◌, None, refl, sym, ap, ◌∙◌, subst, arith}
 use Rattle.xp_words.specs.Machine.{Machine}
 use Rattle.xp_words.specs.Places.{run_of}
 use Rattle.xp_words.specs.declared.place.Place.{Place}
@@ -14,6 +14,7 @@ use Rattle.xp_board.specs.Lists.{times, times_by}
 use Rattle.xp_board.specs.Readings.{is_free}
 use Rattle.xp_board.specs.Sound.{hand_of, is_hinted}
 use Rattle.xp_board.specs.Told.{Post, PortValue, told_word}
+use Rattle.xp_board.proofs.Sums.{same_bit}
 use Rattle.step_maker.specs.Plain.{Words}
 use Rattle.step_maker.proofs.Coming.{came_post, moves_came}
 use Rattle.step_maker.proofs.Telling.{told_elsewhere, told_here}
@@ -35,12 +36,6 @@ no_raised : (f : ℕ) (u : Holdings) → IsEmptyHand u → times f u.raised ≡ 
 unfolding times_by
 no_raised f u empty = rw empty.raised refl
 
-same_bits : (a b : Bool) → bit a ≡ bit b → a ≡ b
-same_bits true true e = refl
-same_bits false false e = refl
-same_bits true false e = absurd cc
-same_bits false true e = absurd cc
-
 pub clean_shows : (v : PortValue) (x : Solo) → Clean v x → Shows v.post.machine v.post.vcpu (told_word v) x
 clean_shows v x c =
     let n = v.post.machine in
@@ -58,7 +53,7 @@ clean_shows v x c =
       free = λ f inside.
           let bits = sound.map.bits f inside in
           let none = none_of n h (λ u. times f u.raised) (no_raised f) empty in
-          same_bits (is_hinted (told_word v) f) (is_free (told_word v (Refs f))) (let k : bit (is_hinted (told_word v) f) ≡ bit (is_free (told_word v (Refs f))) = omega arith in k);
+          same_bit (is_hinted (told_word v) f) (is_free (told_word v (Refs f))) (let k : bit (is_hinted (told_word v) f) ≡ bit (is_free (told_word v (Refs f))) = omega arith in k);
     }
 
 -- ---- other words that tell the same but for that one

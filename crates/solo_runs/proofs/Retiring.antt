@@ -1,42 +1,25 @@
 -- A vCPU that is retired has answered its whole script.
-use Rattle.std.proofs.Common.{◌≡◌, ℕ, zero, suc, ◌≤◌, Bool, true, false, List, [], ◌∷◌, length, Option, Some, None, refl, sym, ap, ◌∙◌, arith}
-use Rattle.std.specs.Prelude.{slice_get}
+use Rattle.std.proofs.Common.{◌≡◌, ℕ, Bool, true, false, List, [], Option, Some, None, refl, sym, ap, ◌∙◌, arith}
 use Rattle.xp_words.specs.declared.ops.Op.{Op}
-use Rattle.xp_words.specs.declared.reply.LogLine.{LogLine}
 use Rattle.xp_board.specs.Told.{PortValue}
-use Rattle.vcpu_turn.specs.Cpus.{Processing, after_turn, next_of, nothing_left, pending_of}
+use Rattle.vcpu_turn.specs.Cpus.{Processing, next_of, nothing_left, pending_of}
 use Rattle.vcpu_turn.specs.Turning.{DiesNext, DoesNext, DoesTurn}
 use Rattle.vcpu_turn.specs.Turning as turning
-use Rattle.vcpu_turn.specs.declared.cpu.Progress.{Progress}
 use Rattle.vcpu_turn.specs.declared.cpu.TurnEnd.{TurnEnd}
-use Rattle.vcpu_turn.specs.declared.cpu.TurnEnd.TheVariants as ends
+use Rattle.vcpu_turn.proofs.TurnSteps.{after_retired, none_pending}
 use Rattle.script_laws.specs.Turns.{Turned}
 use Rattle.script_laws.specs.Turns as turns
-
-past_end : (script : List Op) (k : ℕ) → slice_get script k ≡ None → length script ≤ k
-past_end [] k is = omega arith
-past_end (x ∷ xs) zero is = absurd cc
-past_end (x ∷ xs) (suc k) is = let rest = past_end xs k is in omega arith
-
-none_pending : (c : Processing) → next_of c ≡ None → pending_of c ≡ 0
-none_pending c is = let past = past_end c.script c.answered is in omega arith
-
--- the vCPU is not retired by an answer or a pause
-still_on : (c : Processing) (to : Progress) (log : List LogLine) (end : TurnEnd) → (after_turn c to log end).retired ≡ c.retired
-still_on c to log (ends.Answered reply) = refl
-still_on c to log (ends.Paused p) = refl
-still_on c to log ends.Retired = refl
 
 never : {A : Type 0} (c d : Processing) → d.retired ≡ true → d.retired ≡ c.retired → c.retired ≡ false → A
 never c d off same on = absurd (let e : true ≡ false = sym off ∙ (same ∙ on) in cc)
 
 next_ends : (c : Processing) (o : Option Op) (d : Processing) (v w : PortValue) (answers : List Bool) (end : TurnEnd) → next_of c ≡ o → c.retired ≡ false → DoesNext c o d v w answers end → d.retired ≡ true → pending_of d ≡ 0
 next_ends c None d v w answers end is on does off = ap pending_of does.cpu ∙ none_pending c is
-next_ends c (Some op) d v w answers end is on does off = never c d off (ap (λ (x : Processing). x.retired) does.cpu ∙ still_on c does.to does.log end) on
+next_ends c (Some op) d v w answers end is on does off = never c d off (ap (λ (x : Processing). x.retired) does.cpu ∙ after_retired c does.to does.log end) on
 
 dying_ends : (life : ℕ) (c : Processing) (o : Option Op) (d : Processing) (v w : PortValue) (end : TurnEnd) → next_of c ≡ o → c.retired ≡ false → DiesNext life c o d v w end → d.retired ≡ true → pending_of d ≡ 0
 dying_ends life c None d v w end is on (port, ended, cpu) off = ap pending_of cpu ∙ none_pending c is
-dying_ends life c (Some op) d v w end is on (port, ended, cpu) off = never c d off (ap (λ (x : Processing). x.retired) cpu ∙ still_on c c.at c.log end) on
+dying_ends life c (Some op) d v w end is on (port, ended, cpu) off = never c d off (ap (λ (x : Processing). x.retired) cpu ∙ after_retired c c.at c.log end) on
 
 turn_ends : (c : Processing) (v : PortValue) (d : Processing) (w : PortValue) (answers : List Bool) (end : TurnEnd) → c.retired ≡ false → DoesTurn c (next_of c) v d w answers end → d.retired ≡ true → pending_of d ≡ 0
 turn_ends c v _ _ _ _ on (turning.DoesTurn.unsettled w answers p settles) off = never c c off refl on

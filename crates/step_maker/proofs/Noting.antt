@@ -1,11 +1,12 @@
 -- A step of a port is noted in the hand, and the steps before it stay there.
-use Rattle.std.proofs.Common.{◌≡◌, ℕ, ◌<◌, ◌≤◌, ◌&&◌, ◌||◌, nat_lt, Bool, true, List, ◌∷◌, length, Option, IsTrue, refl, sym, ap, ◌∙◌, subst, arith}
+use Rattle.std.proofs.Common.{◌≡◌, ℕ, ◌<◌, ◌≤◌, ◌==◌, ◌&&◌, ◌||◌, nat_lt, Bool, true, List, ◌∷◌, length, Option, IsTrue, refl, sym, ap, ◌∙◌, subst, arith}
 use Rattle.std.proofs.lemmas.Bool.Decides.{nat_tests}
 use Rattle.std.proofs.lemmas.Bool.{le-leb}
 use Rattle.xp_words.specs.declared.place.Place.{Place}
 use Rattle.xp_words.specs.Places.{sizes_of, place_at}
 use Rattle.xp_words.proofs.PlaceLaws.{place_back}
 use Rattle.xp_board.specs.declared.step.Act.{Act}
+use Rattle.xp_board.specs.declared.step.Act.TheVariants.{Cas}
 use Rattle.xp_board.specs.declared.step.Mark.{Mark}
 use Rattle.xp_board.specs.declared.step.Step.{Step}
 use Rattle.xp_board.specs.declared.step.StepKind.{StepKind}
@@ -23,6 +24,11 @@ below_here n k l = grind (arith, nat_tests)
 
 passes_head : (a b c d : Bool) → a ≡ true → b ≡ true → c ≡ true → IsTrue ((a && (b && c)) || d)
 passes_head a b c d x y z = rw (x, y, z) refl
+
+-- an exchange that finds the word that it expects leaves the new one
+pub swapped : (expected new : ℕ) → left_by (Cas expected new) expected ≡ new
+unfolding left_by
+swapped expected new = let e : (expected == expected) ≡ true = grind (arith, nat_tests) in rw e refl
 
 abbrev pub made_now : Step → ℕ → Made
 made_now x found = record { step = x; found = found }

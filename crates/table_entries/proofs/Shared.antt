@@ -1,8 +1,8 @@
 -- Lemmas that several crates above cite.
-use Rattle.std.proofs.Common.{ℕ, Result, ◌≡◌, List, [], sym, ap, ◌∙◌}
+use Rattle.std.proofs.Common.{ℕ, ◌^◌, ◌<◌, Bool, true, false, Result, ◌≡◌, List, [], sym, ap, ◌∙◌, arith}
 use Rattle.step_maker.proofs.Visiting.{does_came}
 use Rattle.step_maker.specs.Moves.{Came}
-use Rattle.table_entries.specs.Acquiring.{GotRef, GaveRef}
+use Rattle.table_entries.specs.Acquiring.{GotRef, GaveRef, type_counts}
 use Rattle.xp_board.specs.KindSteps.{still_looking}
 use Rattle.xp_board.specs.Lists.{kept_of}
 use Rattle.xp_board.specs.Told.{PortValue}
@@ -18,3 +18,7 @@ gave_came v w f a = does_came v w _ a.found
 pub no_looks : (f w : ℕ) (xs : List Looking) → xs ≡ [] → still_looking f w xs ≡ xs
 unfolding kept_of
 no_looks f w xs none = ap (λ ys. still_looking f w ys) none ∙ sym none
+
+pub few_counts : (own : Bool) → type_counts own < 2 ^ 26
+few_counts true = omega arith
+few_counts false = omega arith

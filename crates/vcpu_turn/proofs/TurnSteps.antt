@@ -1,5 +1,6 @@
 -- A turn as steps of its port, and what pauses it where no other vCPU holds anything.
-use Rattle.std.proofs.Common.{ℕ, ◌+◌, ◌<◌, Bool, List, length, Option, Some, None, Result, Ok, Err, sym, subst}
+use Rattle.std.proofs.Common.{◌≡◌, ℕ, ◌+◌, ◌-◌, ◌<◌, Bool, List, length, Option, Some, None, Result, Ok, Err, refl, sym, subst, inl, inr, arith}
+use Rattle.std.proofs.lemmas.Option.{slice_get_cases}
 use Rattle.xp_words.specs.declared.ops.Op.{Op}
 use Rattle.xp_words.specs.declared.reply.Stop.{Stop}
 use Rattle.xp_words.specs.declared.reply.Stop.TheVariants.{Refused, Paused}
@@ -9,7 +10,9 @@ use Rattle.step_maker.proofs.Coming.{came_trans, came_post, moves_came}
 use Rattle.answer_laws.specs.Alone.{IsAlone}
 use Rattle.vcpu_turn.specs.declared.cpu.TurnEnd.{TurnEnd}
 use Rattle.vcpu_turn.specs.declared.cpu.TurnEnd.TheVariants as ends
-use Rattle.vcpu_turn.specs.Cpus.{Processing, end_of, job_next, job_of, next_of, nothing_left}
+use Rattle.xp_words.specs.declared.reply.LogLine.{LogLine}
+use Rattle.vcpu_turn.specs.declared.cpu.Progress.{Progress}
+use Rattle.vcpu_turn.specs.Cpus.{Processing, after_turn, end_of, job_next, job_of, next_of, nothing_left, pending_of}
 use Rattle.vcpu_turn.specs.Turning.{DiesNext, DoesNext, EndsTurn, DoesTurn, IsStop, IsTurn}
 use Rattle.vcpu_turn.specs.Turning as turning
 use Rattle.vcpu_turn.specs.Unhindered.{IsSparingJob, IsUnhindered}
@@ -44,6 +47,20 @@ begun_came c c2 end v w answers t = came_trans t.begun t.worked w (goes_came c (
 
 pub turn_came : (c c2 : Processing) (end : TurnEnd) (v w : PortValue) (answers : List Bool) → IsTurn c c2 end v w answers → Came v w
 turn_came c c2 end v w answers t = came_trans v t.begun w (begins_came v t.begun t.begins) (begun_came c c2 end v w answers t)
+
+-- ---- retired vCPUs
+-- neither an answer nor a pause retires one
+pub after_retired : (c : Processing) (to : Progress) (log : List LogLine) (end : TurnEnd) → (after_turn c to log end).retired ≡ c.retired
+after_retired c to log (ends.Answered reply) = refl
+after_retired c to log (ends.Paused p) = refl
+after_retired c to log ends.Retired = refl
+
+pub none_pending : (c : Processing) → next_of c ≡ None → pending_of c ≡ 0
+none_pending c ended =
+    elim ((slice_get_cases c.script c.answered).1) [
+      | inl here ↦ absurd (let some = here.2 in cc)
+      | inr past ↦ (let far = past.0 in omega arith)
+    ]
 
 -- ---- pauses
 spared_end : (v : PortValue) (to : ℕ) (answer : Result ℕ Stop) → Spared v answer → IsUnhindered v.post.machine (end_of to answer)

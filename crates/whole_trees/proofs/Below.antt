@@ -22,7 +22,7 @@ use Rattle.xp_board.proofs.Counted.{entries-part}
 use Rattle.xp_board.proofs.LiveTables.{live_inside, table_held}
 use Rattle.xp_board.proofs.Serving.{AsksLive, recorded_asks}
 use Rattle.xp_board.proofs.Sums.{one_is}
-use Rattle.whole_trees.specs.Whole.{IsGranted, IsWhole, Leads, below, itself}
+use Rattle.whole_trees.specs.Whole.{IsGranted, IsWholeTree, LeadsDown, below, itself}
 
 table_low : (u : PageType) → IsTrue (is_table u) → 1 ≤ type_number u
 table_low u is = grind (arith, nat_tests)
@@ -108,11 +108,11 @@ module _ (n : Machine) (m : Place → ℕ) (h : ℕ → Holdings) (sound : Sound
 
   -- ---- all that it leads to
   module _ (f : ℕ) (t : PageType) (top : IsCountedAs (kind_at m f) t) where
-    leads_live : (g : ℕ) (u : PageType) → Leads m f t g u → IsCountedAs (kind_at m g) u
+    leads_live : (g : ℕ) (u : PageType) → LeadsDown m f t g u → IsCountedAs (kind_at m g) u
     leads_live _ _ itself = top
     leads_live _ _ (below g i x u w way table inside asks) = next_live g u table (leads_live g u way) i x w inside asks
 
-    pub is_whole : IsWhole n m f t
+    pub is_whole : IsWholeTree n m f t
     is_whole =
         record {
           live = leads_live;

@@ -1,6 +1,5 @@
 -- The step that sets a pin, and the moment behind it.
-use Rattle.std.proofs.Common.{◌≡◌, ◌^◌, ◌<◌, ◌==◌, ◌++◌, ℕ, Bool, true, List, ◌∷◌, Result, Ok, None, IsTrue, refl, sym, ap, subst, ◌∙◌, Some, ◌≤◌, arith}
-use Rattle.std.proofs.lemmas.Bool.Decides.{nat_tests}
+use Rattle.std.proofs.Common.{◌≡◌, ◌++◌, ℕ, Bool, List, ◌∷◌, Result, Ok, None, IsTrue, refl, sym, ap, subst, ◌∙◌, Some, ◌≤◌, arith}
 use Rattle.xp_words.specs.declared.kind.KindWord.{KindWord}
 use Rattle.xp_words.specs.declared.kind.PageType.{PageType}
 use Rattle.xp_words.specs.declared.place.Place.{Place}
@@ -9,7 +8,7 @@ use Rattle.xp_words.specs.declared.reply.Stop.{Stop}
 use Rattle.xp_words.specs.KindWords.{kind_fields, kind_write}
 use Rattle.xp_words.specs.Machine.{Machine}
 use Rattle.xp_words.specs.Places.{is_place, sizes_of}
-use Rattle.xp_words.proofs.KindLaws.{fields_back}
+use Rattle.xp_words.proofs.KindLaws.{fields_back, fields_in_range}
 use Rattle.xp_words.proofs.PlaceLaws.{memory_same, place_back}
 use Rattle.xp_board.specs.declared.holdings.Made.{Made}
 use Rattle.xp_board.specs.declared.holdings.Holdings.{Holdings}
@@ -18,7 +17,6 @@ use Rattle.xp_board.specs.declared.step.Step.{Step}
 use Rattle.xp_board.specs.declared.step.StepKind.TheVariants as kinds
 use Rattle.xp_board.specs.Acts.{left_by}
 use Rattle.xp_board.specs.After.{hands_of}
-use Rattle.xp_board.specs.Hands.{empty}
 use Rattle.xp_board.specs.Lists.{EachOf}
 use Rattle.xp_board.specs.Readings.{kind_at}
 use Rattle.xp_board.specs.Recorded.{HasType}
@@ -27,14 +25,14 @@ use Rattle.xp_board.specs.Sound.{SoundState, SoundWords, hand_of}
 use Rattle.xp_board.specs.Told.{Post, PortValue}
 use Rattle.step_maker.specs.Moves.{Came, step_at}
 use Rattle.step_maker.proofs.Coming.{came_post, came_trans, moves_came}
-use Rattle.step_maker.proofs.Noting.{made_now, moves_steps}
+use Rattle.step_maker.proofs.Noting.{made_now, moves_steps, swapped}
 use Rattle.sound_rule.proofs.OwnRun.{RunsSound}
 use Rattle.partial_state.specs.Levels.{level_type}
 use Rattle.table_words.specs.Pins.{pinned_kind}
 use Rattle.table_entries.proofs.Shared.{gave_came, ref_came}
 use Rattle.course_laws.proofs.Stopping.{acquired_came}
 use Rattle.mmuext_ops.specs.Course.{PinEnds, Pinned, SawKind, SetsPin, acquired, lost, pinned, pinned_before, raced, refused, seen, unreferred}
-use Rattle.whole_trees.specs.Whole.{IsToldBySteps, IsWhole, WasPinned}
+use Rattle.whole_trees.specs.Whole.{IsToldBySteps, IsWholeTree, WasPinned}
 use Rattle.whole_trees.proofs.Hands.{came_more, run_told, told_on}
 use Rattle.whole_trees.proofs.Moments.{Stood, state, stood}
 use Rattle.whole_trees.proofs.Tops.{pinned_whole}
@@ -70,14 +68,6 @@ set_by_pin v w d f level _ _ table (acquired a b c e x answers answer ref saw ga
     set_by_end v e w f level answer came (acquired_has c e f d level answers (Ok f) table acquisition refl) ends is
 
 -- ---- the word that it leaves
-short : (x : ℕ) → ((kind_fields x).number < 2 ^ 36) × ((kind_fields x).progress < 2 ^ 10)
-unfolding kind_fields
-short x = (omega arith, omega arith)
-
-same_found : (x l : ℕ) → left_by (Cas x l) x ≡ l
-unfolding left_by
-same_found x l = let e : (x == x) ≡ true = grind (arith, nat_tests) in rw e refl
-
 first_typed : (m : Place → ℕ) (f : ℕ) (t : PageType) (h : Holdings) → HasTyped f t h → EachOf (λ e. HasType m e.frame e.kind) h.typed → (kind_at m f).kind ≡ t
 unfolding EachOf
 first_typed m f t h has each =
@@ -145,10 +135,10 @@ module _ (n : Machine) (opening : List ℕ) (log : List (ℕ × Step)) (b : Stat
   word_now =
       let real = subst (λ p. IsTrue (is_place (sizes_of n) p)) is_there there.step.legal.place in
       memory_same (sizes_of n) there.before.words (Kind f) (left_by (Cas set.word new) (word_at n there.before (place_of n step))) real state_before.all_words
-      ∙ ap (left_by (Cas set.word new)) there.found ∙ same_found set.word new
+      ∙ ap (left_by (Cas set.word new)) there.found ∙ swapped set.word new
 
   kind_now : kind_at (word_at n moment) f ≡ pinned_kind k
-  kind_now = ap kind_fields word_now ∙ fields_back (pinned_kind k) (short set.word).0 (short set.word).1
+  kind_now = ap kind_fields word_now ∙ fields_back (pinned_kind k) (fields_in_range set.word).0 (fields_in_range set.word).1
 
   on : IsTrue (kind_at (word_at n moment) f).pinned
   on = ap (λ (y : KindWord). y.pinned) kind_now
@@ -166,7 +156,7 @@ module _ (n : Machine) (opening : List ℕ) (log : List (ℕ × Step)) (b : Stat
         run = behind;
         pinned = on;
         kind = typed_now;
-        whole = subst (λ u. IsWhole n (word_at n moment) f u) typed_now (pinned_whole n (word_at n moment) (hand_of moment.hands) (state n opening s sound runs moment ((s, step) ∷ there.older) behind).sound f on).1;
+        whole = subst (λ u. IsWholeTree n (word_at n moment) f u) typed_now (pinned_whole n (word_at n moment) (hand_of moment.hands) (state n opening s sound runs moment ((s, step) ∷ there.older) behind).sound f on).1;
       }
 
 pub pin_was_set : RunsSound → (n : Machine) (opening : List ℕ) (log : List (ℕ × Step)) (b : State) (v w z : PortValue) (d f level : ℕ) (answers : List Bool) →

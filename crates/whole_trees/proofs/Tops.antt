@@ -17,7 +17,7 @@ use Rattle.xp_board.specs.Sound.{Sound, Spelled}
 use Rattle.xp_board.specs.Spelling.{IsSpelling}
 use Rattle.xp_board.proofs.KindForms.{spelled_form}
 use Rattle.xp_board.proofs.LiveTables.{base_table}
-use Rattle.whole_trees.specs.Whole.{AllWhole, IsWhole, Leads}
+use Rattle.whole_trees.specs.Whole.{AllWhole, IsWholeTree, LeadsDown}
 use Rattle.whole_trees.proofs.Below.{is_whole}
 
 record IsPinnedTable (k : KindWord) : Type 0 where
@@ -42,12 +42,12 @@ pinned_table n m f spelled on =
     ]
 
 module _ (n : Machine) (m : Place → ℕ) (h : ℕ → Holdings) (sound : Sound n m h) where
-  pub pinned_whole : (f : ℕ) → IsTrue (kind_at m f).pinned → IsTrue (is_table (kind_at m f).kind) × IsWhole n m f (kind_at m f).kind
+  pub pinned_whole : (f : ℕ) → IsTrue (kind_at m f).pinned → IsTrue (is_table (kind_at m f).kind) × IsWholeTree n m f (kind_at m f).kind
   pinned_whole f on =
       let is = pinned_table n m f sound.spelled on in
       (is.table, is_whole n m h sound f (kind_at m f).kind (record { live = is.live; kind = refl; counted = is.counted }))
 
-  base_whole : (v k f : ℕ) → v < (sizes_of n).vcpus → k < 2 → m (Vcpu v k) ≡ f + 1 → (owner_of (m (Refs f)) ≡ Some (domain_of n v)) × IsWhole n m f L4
+  base_whole : (v k f : ℕ) → v < (sizes_of n).vcpus → k < 2 → m (Vcpu v k) ≡ f + 1 → (owner_of (m (Refs f)) ≡ Some (domain_of n v)) × IsWholeTree n m f L4
   base_whole v k f real base names =
       let top = base_table n m h sound v k f real base names in
       (top.owner, is_whole n m h sound f L4 (record { live = top.live; kind = top.kind; counted = top.counted }))
@@ -55,5 +55,5 @@ module _ (n : Machine) (m : Place → ℕ) (h : ℕ → Holdings) (sound : Sound
   pub all_whole : AllWhole n m
   all_whole = record { pinned = pinned_whole; bases = base_whole }
 
-pub one_type : (n : Machine) (m : Place → ℕ) (f g x : ℕ) (t u v w : PageType) → IsWhole n m f t → IsWhole n m g u → Leads m f t x v → Leads m g u x w → v ≡ w
+pub one_type : (n : Machine) (m : Place → ℕ) (f g x : ℕ) (t u v w : PageType) → IsWholeTree n m f t → IsWholeTree n m g u → LeadsDown m f t x v → LeadsDown m g u x w → v ≡ w
 one_type n m f g x t u v w first second a b = sym (first.live x v a).kind ∙ (second.live x w b).kind

@@ -8,7 +8,7 @@ use Rattle.xp_words.specs.declared.reply.Stop.{Stop}
 use Rattle.xp_words.specs.KindWords.{kind_fields, kind_read, kind_write}
 use Rattle.xp_words.specs.Machine.{Machine}
 use Rattle.xp_words.specs.PageTypes.{is_none}
-use Rattle.xp_words.proofs.KindLaws.{fields_back}
+use Rattle.xp_words.proofs.KindLaws.{fields_back, fields_in_range}
 use Rattle.xp_board.specs.declared.holdings.Holdings.{Holdings}
 use Rattle.xp_board.specs.declared.holdings.TypedReference.{TypedReference}
 use Rattle.xp_board.specs.declared.holdings.Work.{Work}
@@ -32,6 +32,7 @@ use Rattle.frame_types.proofs.Classing.{when_counted}
 use Rattle.partial_state.specs.Levels.{level_type}
 use Rattle.table_entries.specs.Acquiring as acquiring
 use Rattle.table_entries.specs.Acquiring.{Acquired, finished, outermost_table, type_counts, unfinished, unreferred, untyped, waiting}
+use Rattle.table_entries.proofs.Shared.{few_counts}
 use Rattle.course_laws.proofs.Outermost.{worked_outermost}
 
 -- the newest typed reference in hand is one to frame f, of that type
@@ -85,16 +86,12 @@ same_test x = grind (arith, nat_tests)
 counted_by : (f x new : ℕ) (h : Holdings) → kind_row (kind_fields x) (kind_fields new) ≡ Count → HasTyped f (kind_fields x).kind (after_kind_cas f x new x h)
 counted_by f x new h row = rw (same_test x, row) record { newest = _; others = _; typed = refl; frame = refl; kind = refl }
 
-progress_short : (x : ℕ) → (kind_fields x).progress < 2 ^ 10
-unfolding kind_fields
-progress_short x = omega arith
-
 raised_has : (u w : PortValue) (f x : ℕ) → (kind_fields x).validated ≡ true → Moves u w (Kind f) (Cas x (kind_write (raised_kind (kind_fields x)))) kinds.Kind None x → HasTyped f (kind_fields x).kind w.holdings
 raised_has u w f x live m =
     let k = kind_fields x in
     let new = kind_write (raised_kind k) in
     let read = spelled_by u.post.machine u.post.vcpu f u.holdings x (kind_read x) (kind_read new) refl m.may.act in
-    let back = raised_back k (live_form x k read live).number (progress_short x) in
+    let back = raised_back k (live_form x k read live).number (fields_in_range x).1 in
     as_typed f k.kind (after_kind_cas f x new x u.holdings) w.holdings (ap (λ (y : PortValue). y.holdings.typed) m.to)
     (counted_by f x new u.holdings (ap (kind_row k) back ∙ raised_row k live))
 
@@ -135,10 +132,6 @@ module _ (v w : PortValue) (f owner level : ℕ) (table : 1 ≤ level) where
       taken_by found.0 found.1 took.word (standing_of (kind_fields took.word) (level_type level)) refl took.way took.steps
 
 -- ---- the whole acquisition
-two_at_most : (own : Bool) → type_counts own < 2 ^ 26
-two_at_most true = omega arith
-two_at_most false = omega arith
-
 a_type : (level : ℕ) → 1 ≤ level → IsTrue (not (is_none (level_type level)))
 a_type zero some = absurd (omega arith)
 a_type (suc zero) some = refl
@@ -156,4 +149,4 @@ acquired_has v w f owner level _ _ table (finished u x y _ progress own t answer
     let top : (t.frame ≡ f) × (t.level ≡ level) = worked_outermost owner f level x (outermost_table f level progress own) y (t ∷ []) answers (Ok tt) work (refl, refl) in
     let typed : IsTrue (not (is_none (level_type t.level))) = subst (λ l. IsTrue (not (is_none (level_type l)))) (sym top.1) (a_type level table) in
     subst (λ l. HasTyped f (level_type l) w.holdings) top.1
-    (subst (λ g. HasTyped g (level_type t.level) w.holdings) top.0 (made_live_has y w t.frame (type_counts t.own) made.0 (level_type t.level) typed (two_at_most t.own) made.1))
+    (subst (λ g. HasTyped g (level_type t.level) w.holdings) top.0 (made_live_has y w t.frame (type_counts t.own) made.0 (level_type t.level) typed (few_counts t.own) made.1))

@@ -19,9 +19,9 @@ use Rattle.xp_board.specs.Runs.{Run, State, start, word_at}
 use Rattle.xp_board.specs.Valid.{EntryPermitted}
 
 -- Frame f, as a table of type t, leads to a frame as one of type u: to itself, and where an entry of a table that it leads to asks that type of it.
-pub data Leads (m : Place → ℕ) (f : ℕ) (t : PageType) : ℕ → PageType → Type 0 where
-  itself : Leads m f t f t
-  below : (g i x : ℕ) (u w : PageType) → Leads m f t g u → IsTrue (is_table u) → i < 512 → demand_at u i (m (Cell g i)) ≡ Typed x w → Leads m f t x w
+pub data LeadsDown (m : Place → ℕ) (f : ℕ) (t : PageType) : ℕ → PageType → Type 0 where
+  itself : LeadsDown m f t f t
+  below : (g i x : ℕ) (u w : PageType) → LeadsDown m f t g u → IsTrue (is_table u) → i < 512 → demand_at u i (m (Cell g i)) ≡ Typed x w → LeadsDown m f t x w
 
 -- Frame x is one of the machine, somebody refers to it, and a table g of type u may name it.
 pub record IsGranted (n : Machine) (m : Place → ℕ) (g : ℕ) (u : PageType) (x : ℕ) : Type 0 where
@@ -31,16 +31,16 @@ pub record IsGranted (n : Machine) (m : Place → ℕ) (g : ℕ) (u : PageType) 
 
 -- All that frame f leads to as a table of type t is validated: live with the type that is asked of it, and with a type count. No entry of these tables asks
 -- what may not be, and what each names is granted.
-pub record IsWhole (n : Machine) (m : Place → ℕ) (f : ℕ) (t : PageType) : Type 0 where
-  pub live : (g : ℕ) (u : PageType) → Leads m f t g u → IsCountedAs (kind_at m g) u
-  pub inside : (g : ℕ) (u : PageType) → Leads m f t g u → g < n.frames
-  pub allowed : (g i : ℕ) (u : PageType) → Leads m f t g u → IsTrue (is_table u) → i < 512 → demand_at u i (m (Cell g i)) ≢ Bad
-  pub granted : (g i x : ℕ) (u : PageType) → Leads m f t g u → IsTrue (is_table u) → i < 512 → names x (demand_at u i (m (Cell g i))) ≡ 1 → IsGranted n m g u x
+pub record IsWholeTree (n : Machine) (m : Place → ℕ) (f : ℕ) (t : PageType) : Type 0 where
+  pub live : (g : ℕ) (u : PageType) → LeadsDown m f t g u → IsCountedAs (kind_at m g) u
+  pub inside : (g : ℕ) (u : PageType) → LeadsDown m f t g u → g < n.frames
+  pub allowed : (g i : ℕ) (u : PageType) → LeadsDown m f t g u → IsTrue (is_table u) → i < 512 → demand_at u i (m (Cell g i)) ≢ Bad
+  pub granted : (g i x : ℕ) (u : PageType) → LeadsDown m f t g u → IsTrue (is_table u) → i < 512 → names x (demand_at u i (m (Cell g i))) ≡ 1 → IsGranted n m g u x
 
 -- So is each pinned frame, as the table that its kind word says, and each kernel or user base, as a top table of its vCPU's own domain.
 pub record AllWhole (n : Machine) (m : Place → ℕ) : Type 0 where
-  pub pinned : (f : ℕ) → IsTrue (kind_at m f).pinned → IsTrue (is_table (kind_at m f).kind) × IsWhole n m f (kind_at m f).kind
-  pub bases : (v k f : ℕ) → v < (sizes_of n).vcpus → k < 2 → m (Vcpu v k) ≡ f + 1 → (owner_of (m (Refs f)) ≡ Some (domain_of n v)) × IsWhole n m f L4
+  pub pinned : (f : ℕ) → IsTrue (kind_at m f).pinned → IsTrue (is_table (kind_at m f).kind) × IsWholeTree n m f (kind_at m f).kind
+  pub bases : (v k f : ℕ) → v < (sizes_of n).vcpus → k < 2 → m (Vcpu v k) ≡ f + 1 → (owner_of (m (Refs f)) ≡ Some (domain_of n v)) × IsWholeTree n m f L4
 
 -- What vCPU s holds is told by its own steps, from nothing on, as on each run.
 abbrev pub IsToldBySteps : Machine → ℕ → Holdings → Type 0
@@ -55,4 +55,4 @@ pub record WasPinned (n : Machine) (opening : List ℕ) (log : List (ℕ × Step
   pub run : Run n (start n opening) older moment
   pub pinned : IsTrue (kind_at (word_at n moment) f).pinned
   pub kind : (kind_at (word_at n moment) f).kind ≡ t
-  pub whole : IsWhole n (word_at n moment) f t
+  pub whole : IsWholeTree n (word_at n moment) f t

@@ -18,13 +18,13 @@ ghost use Rattle.step_maker.specs.Moves.{Came};
 ghost use Rattle.partial_state.specs.Levels.{level_type};
 ghost use Rattle.mmuext_ops.specs.Course.{Pinned};
 ghost use Rattle.vcpu_turn.specs.Ext.{ExtFits};
-ghost use Rattle.whole_trees.specs.Whole.{AllWhole, IsToldBySteps, IsWhole, Leads, WasPinned};
+ghost use Rattle.whole_trees.specs.Whole.{AllWhole, IsToldBySteps, IsWholeTree, LeadsDown, WasPinned};
 
 use sound_rule::every_run_stays_sound;
 
 /// In a sound machine all that a live and counted table leads to is validated, also while other vCPUs are in the middle of anything.
 pub fn all_below_a_live_table_is_validated()
-    ensures { (n : Machine) (m : Place → ℕ) (h : ℕ → Holdings) (f : ℕ) (t : PageType) → Sound n m h → IsTrue (is_table t) → IsCountedAs (kind_at m f) t → IsWhole n m f t }
+    ensures { (n : Machine) (m : Place → ℕ) (h : ℕ → Holdings) (f : ℕ) (t : PageType) → Sound n m h → IsTrue (is_table t) → IsCountedAs (kind_at m f) t → IsWholeTree n m f t }
 {}
 
 /// So it is, at each moment of a run from a sound state, with each frame that has the pinned mark, and with what each vCPU's kernel or user base names
@@ -37,7 +37,7 @@ pub fn every_moment_of_a_run_is_whole()
 
 /// All trees that are whole at one moment lead to a frame as one type. So what is a table in one of them is mapped writable by none.
 pub fn a_frame_has_one_type_in_all_trees()
-    ensures { (n : Machine) (m : Place → ℕ) (f g x : ℕ) (t u v w : PageType) → IsWhole n m f t → IsWhole n m g u → Leads m f t x v → Leads m g u x w → v ≡ w }
+    ensures { (n : Machine) (m : Place → ℕ) (f g x : ℕ) (t u v w : PageType) → IsWholeTree n m f t → IsWholeTree n m g u → LeadsDown m f t x v → LeadsDown m g u x w → v ≡ w }
 {}
 
 /// A pin that is done, from port `v` to port `w` of a vCPU that holds what its own steps tell, and whose steps up to a later port `z` stand on a run from

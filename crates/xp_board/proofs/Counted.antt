@@ -13,7 +13,7 @@ use Rattle.xp_board.specs.Readings.{kind_at, is_context, ref_count, type_count, 
 use Rattle.xp_board.specs.Hands.{hand, typed_hand, refs_to, typed_to, locks_on}
 use Rattle.xp_board.specs.Recorded.{names, CountsAgree, work_of, held, held_of, names_typed, entry_demand, table_entries, entries, contexts, HasType}
 use Rattle.xp_board.specs.Sound.{Spelled, Sound}
-use Rattle.xp_board.proofs.Sums.{hands-part, hands-fewer, sum_below-fewer, one_at-same, sum_below-one, sum_below-part, sum_below-same}
+use Rattle.xp_board.proofs.Sums.{hands-part, hands-fewer, sum_below-fewer, one_at-same, one_is, sum_below-one, sum_below-part, sum_below-same}
 use Rattle.xp_words.specs.declared.kind.PageType.{PageType}
 use Rattle.xp_words.specs.declared.entry.Demand.{Demand}
 use Rattle.xp_board.specs.declared.holdings.Holdings.{Holdings}
@@ -61,6 +61,14 @@ entries-part c z m h f i b l =
     let table = sum_below-part _ (λ j. c (entry_demand m f j)) i l in
     let all = sum_below-part z.frames (λ g. table_entries c m (work_of z.vcpus h g) g) f b in
     omega arith
+
+-- what counts there asks a type of the frame
+pub names_typed-asks : (g : ℕ) (d : Demand) → 0 < names_typed g d → (t : PageType) × (d ≡ Typed g t)
+unfolding names_typed
+names_typed-asks g Nothing some = absurd (omega arith)
+names_typed-asks g Bad some = absurd (omega arith)
+names_typed-asks g (Read f) some = absurd (omega arith)
+names_typed-asks g (Typed f t) some = (t, ap (λ x. Typed x t) (one_is g f some))
 
 pub names_typed-typed : (g : ℕ) (t : PageType) (d : Demand) → d ≡ Typed g t → names_typed g d ≡ 1
 unfolding names_typed

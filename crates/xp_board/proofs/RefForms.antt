@@ -1,5 +1,8 @@
 -- What reference words say by their forms, beside the readings that stand with the board: the number that they are, and what a count rules out.
-use Rattle.std.proofs.Common.{◌≡◌, ℕ, ◌<◌, false, true, Option, Some, None, sym, arith, refl}
+use Rattle.std.proofs.Common.{◌≡◌, ℕ, ◌<◌, ◌≤◌, false, true, Option, Some, None, IsTrue, sym, arith, refl}
+use Rattle.std.proofs.lemmas.Bool.Decides.{nat_tests}
+use Rattle.xp_words.specs.Machine.{Machine}
+use Rattle.xp_board.specs.Spelling.{is_ref_in}
 use Rattle.xp_words.specs.declared.refs.RefWord.{RefWord}
 use Rattle.xp_words.specs.declared.refs.RefWord.TheVariants.{Free, Owned, Dying}
 use Rattle.xp_words.specs.RefWords.{ref_read, ref_write}
@@ -18,6 +21,13 @@ dying_number w o e = sym (ref_write-read w (Dying o) (read_small w (Dying o) e) 
 -- ---- counts
 pub dying_uncounted : (w : ℕ) → is_dying w ≡ true → ref_count w ≡ 0
 dying_uncounted w e = let r = is_dying-read w e in (dying_says w r.0 r.1).counts
+
+-- that of a spelling is within the limit
+pub count_fits : (n : Machine) (o : Option RefWord) → IsTrue (is_ref_in n o) → count_in o ≤ n.limit
+count_fits n (Some (Free stamp)) is = omega arith
+count_fits n (Some (Owned owner allocated count)) is = grind (arith, nat_tests)
+count_fits n (Some (Dying owner)) is = omega arith
+count_fits n None is = absurd cc
 
 counted_by : (r : Option RefWord) → 0 < count_in r → (is_free_in r ≡ false) × (is_dying_in r ≡ false)
 counted_by (Some (Owned owner allocated count)) some = (refl, refl)

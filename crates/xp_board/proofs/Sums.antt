@@ -130,6 +130,12 @@ pub no_bit : (b : Bool) → bit b ≡ 0 → b ≡ false
 no_bit true e = absurd (omega arith)
 no_bit false e = refl
 
+pub same_bit : (a b : Bool) → bit a ≡ bit b → a ≡ b
+same_bit true true e = refl
+same_bit false false e = refl
+same_bit true false e = absurd (omega (arith, e))
+same_bit false true e = absurd (omega (arith, e))
+
 pub sum_below-plus : (n : ℕ) (p q r : ℕ → ℕ) → ((k : ℕ) → k < n → r k ≡ p k + q k) → sum_below n r ≡ sum_below n p + sum_below n q
 unfolding sum_below
 sum_below-plus zero p q r e = refl

@@ -118,7 +118,7 @@ kind_read-write x h =
     let f = fields_back x b.0 b.1 in
     rw f (rw t (rw b.2))
 
-fields_in_range : (w : ℕ) → ((kind_fields w).number < 2 ^ 36) × ((kind_fields w).progress < 2 ^ 10)
+pub fields_in_range : (w : ℕ) → ((kind_fields w).number < 2 ^ 36) × ((kind_fields w).progress < 2 ^ 10)
 unfolding kind_fields
 fields_in_range w = (omega arith, omega arith)
 
