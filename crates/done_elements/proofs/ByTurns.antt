@@ -18,6 +18,7 @@ use Rattle.vcpu_turn.specs.Cpus.{Processing}
 use Rattle.xp_machine.specs.Pieces.{Leads, Piece, log_by}
 use Rattle.xp_machine.specs.Turns as staged
 use Rattle.xp_machine.specs.Turns.{ByCpu, InOrder, MakesStagedStop, MakesStagedTurn, Stage, UnlessRetired, WorksOff, port_on}
+use Rattle.whole_trees.specs.Whole.{WasBase, WasPinned}
 use Rattle.whole_trees.proofs.Hands.{run_told}
 use Rattle.done_elements.specs.Replied.{WasSet}
 use Rattle.done_elements.proofs.Fresh.{did_whole}

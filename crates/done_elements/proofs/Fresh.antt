@@ -1,5 +1,5 @@
 -- Before a vCPU's first turn no element is done; and what elements that are done named was whole.
-use Rattle.std.proofs.Common.{◌≡◌, ◌≢◌, ◌+◌, ◌<◌, ◌≤◌, ◌==◌, nat_lt, ℕ, Bool, true, false, List, [], length, map, Contains, Option, Some, None, Ok, refl, sym, ap, subst, ◌∙◌, arith, slice_index_or}
+use Rattle.std.proofs.Common.{◌≡◌, ◌≢◌, ◌+◌, ◌<◌, ◌==◌, nat_lt, ℕ, true, false, List, [], Contains, Option, Some, None, Ok, refl, sym, ap, subst, ◌∙◌, arith}
 use Rattle.std.specs.Prelude.{slice_get}
 use Rattle.std.specs.List.{enumerate_from}
 use Rattle.std.specs.Option.{option_map}
@@ -88,8 +88,8 @@ module _ (n : Machine) (opening : List ℕ) (log : List (ℕ × Step)) (b : Stat
   steps_there : (hand_of b.hands d.before.post.vcpu).steps ≡ w.holdings.steps
   steps_there = ap (λ (q : Post). (hand_of b.hands q.vcpu).steps) post ∙ is
 
-  base : (base : Base) (f : ℕ) → SetsBase d.before d.behind base (Some f) d.answers (Ok tt) → WasBase n opening log v.post.vcpu (base_number base) f
-  base base f sets =
+  set_base : (base : Base) (f : ℕ) → SetsBase d.before d.behind base (Some f) d.answers (Ok tt) → WasBase n opening log v.post.vcpu (base_number base) f
+  set_base base f sets =
       subst (λ (q : Post). WasBase n opening log q.vcpu (base_number base) f) post (base_was_set runs n opening log b d.before d.behind w base f d.answers sound run own steps_there sets d.goes)
 
   by_element : (x : Element) → ext_element e ≡ x → Performed d.before d.behind d.domain x d.awaited d.answers (Ok tt)
@@ -99,6 +99,6 @@ module _ (n : Machine) (opening : List ℕ) (log : List (ℕ × Step)) (b : Stat
   did_whole =
       record {
         pin = λ low. pin_was_set runs n opening log b d.before d.behind w d.domain e.first (e.command + 1) d.answers sound run own told_there steps_there (omega arith) (by_element (Pin e.first (e.command + 1)) (is_pin e low)) d.goes;
-        kernel = λ five. base Kernel e.first (by_element (NewBase e.first) (is_kernel e five));
-        user = λ fifteen some. base User e.first (subst (λ o. SetsBase d.before d.behind User o d.answers (Ok tt)) (names_frame e.first some) (by_element (NewUserBase e.first) (is_user e fifteen)));
+        kernel = λ five. set_base Kernel e.first (by_element (NewBase e.first) (is_kernel e five));
+        user = λ fifteen some. set_base User e.first (subst (λ o. SetsBase d.before d.behind User o d.answers (Ok tt)) (names_frame e.first some) (by_element (NewUserBase e.first) (is_user e fifteen)));
       }

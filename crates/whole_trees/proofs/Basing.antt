@@ -1,5 +1,5 @@
 -- The step that stores a base, and the moment behind it.
-use Rattle.std.proofs.Common.{◌≡◌, ◌+◌, ◌<◌, ◌++◌, ℕ, Bool, List, Option, Some, None, Result, Ok, Err, refl, sym, ap, subst, ◌∙◌, arith}
+use Rattle.std.proofs.Common.{◌≡◌, ◌+◌, ◌<◌, ℕ, Bool, List, Option, Some, None, Result, Ok, refl, ap, subst, ◌∙◌, arith}
 use Rattle.xp_words.specs.declared.place.Place.TheVariants.{Clock, Vcpu}
 use Rattle.xp_words.specs.declared.reply.Stop.{Stop}
 use Rattle.xp_words.specs.Machine.{Machine}

@@ -1,5 +1,5 @@
 -- The moment behind a step of a port whose vCPU's steps stand on a run.
-use Rattle.std.proofs.Common.{◌≡◌, ◌++◌, ℕ, List, ◌∷◌, None, IsTrue, refl, sym, ap, subst, ◌∙◌}
+use Rattle.std.proofs.Common.{◌≡◌, ◌<◌, ◌++◌, ℕ, List, ◌∷◌, None, IsTrue, sym, ap, subst, ◌∙◌}
 use Rattle.xp_words.specs.declared.place.Place.{Place}
 use Rattle.xp_words.specs.Machine.{Machine}
 use Rattle.xp_words.specs.Places.{is_place, sizes_of}
@@ -10,7 +10,7 @@ use Rattle.xp_board.specs.declared.step.Step.{Step}
 use Rattle.xp_board.specs.declared.step.StepKind.{StepKind}
 use Rattle.xp_board.specs.Acts.{left_by}
 use Rattle.xp_board.specs.Runs.{Run, State, next, place_of, start, word_at}
-use Rattle.xp_board.specs.Sound.{SoundState, SoundWords, hand_of}
+use Rattle.xp_board.specs.Sound.{SoundWords, hand_of}
 use Rattle.xp_board.specs.Told.{PortValue}
 use Rattle.step_maker.specs.Moves.{Moves, step_at}
 use Rattle.step_maker.proofs.Noting.{made_now, moves_steps}

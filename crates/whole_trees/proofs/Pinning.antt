@@ -1,5 +1,5 @@
 -- The step that sets a pin, and the moment behind it.
-use Rattle.std.proofs.Common.{◌≡◌, ◌++◌, ℕ, Bool, List, ◌∷◌, Result, Ok, None, IsTrue, refl, sym, ap, subst, ◌∙◌, Some, ◌≤◌, arith}
+use Rattle.std.proofs.Common.{◌≡◌, ◌++◌, ℕ, Bool, List, Result, Ok, None, IsTrue, refl, sym, ap, subst, ◌∙◌, Some, ◌≤◌, arith}
 use Rattle.xp_words.specs.declared.kind.KindWord.{KindWord}
 use Rattle.xp_words.specs.declared.kind.PageType.{PageType}
 use Rattle.xp_words.specs.declared.place.Place.{Place}
@@ -7,25 +7,22 @@ use Rattle.xp_words.specs.declared.place.Place.TheVariants.{Kind}
 use Rattle.xp_words.specs.declared.reply.Stop.{Stop}
 use Rattle.xp_words.specs.KindWords.{kind_fields, kind_write}
 use Rattle.xp_words.specs.Machine.{Machine}
-use Rattle.xp_words.specs.Places.{is_place, sizes_of}
 use Rattle.xp_words.proofs.KindLaws.{fields_back, fields_in_range}
-use Rattle.xp_words.proofs.PlaceLaws.{memory_same, place_back}
 use Rattle.xp_board.specs.declared.holdings.Made.{Made}
 use Rattle.xp_board.specs.declared.holdings.Holdings.{Holdings}
 use Rattle.xp_board.specs.declared.step.Act.TheVariants.{Cas, Load}
 use Rattle.xp_board.specs.declared.step.Step.{Step}
 use Rattle.xp_board.specs.declared.step.StepKind.TheVariants as kinds
-use Rattle.xp_board.specs.Acts.{left_by}
 use Rattle.xp_board.specs.After.{hands_of}
 use Rattle.xp_board.specs.Lists.{EachOf}
 use Rattle.xp_board.specs.Readings.{kind_at}
 use Rattle.xp_board.specs.Recorded.{HasType}
-use Rattle.xp_board.specs.Runs.{Run, State, next, place_of, start, word_at}
+use Rattle.xp_board.specs.Runs.{Run, State, start, word_at}
 use Rattle.xp_board.specs.Sound.{SoundState, SoundWords, hand_of}
 use Rattle.xp_board.specs.Told.{Post, PortValue}
-use Rattle.step_maker.specs.Moves.{Came, step_at}
+use Rattle.step_maker.specs.Moves.{Came}
 use Rattle.step_maker.proofs.Coming.{came_post, came_trans, moves_came}
-use Rattle.step_maker.proofs.Noting.{made_now, moves_steps, swapped}
+use Rattle.step_maker.proofs.Noting.{swapped}
 use Rattle.sound_rule.proofs.OwnRun.{RunsSound}
 use Rattle.partial_state.specs.Levels.{level_type}
 use Rattle.table_words.specs.Pins.{pinned_kind}
