@@ -84,9 +84,12 @@ top_came : (new : Option ℕ) (v w : PortValue) (answers : List Bool) → Acquir
 top_came None v w answers p = subst (λ z. Came v z) (sym p.0) (came_self v)
 top_came (Some f) v w answers p = acquired_came p
 
+-- behind the store
+pub stored_came : {v w : PortValue} {base : Base} {new : Option ℕ} {answers : List Bool} (p : Installed v w base new answers) → Came p.stored w
+stored_came {w = w} {answers = answers} p = came_trans p.stored p.flushed w (behind_came p.stored p.flushed p.flushes) (releases_old_came p.old p.flushed w answers p.releases)
+
 pub installed_came : {v w : PortValue} {base : Base} {new : Option ℕ} {answers : List Bool} → Installed v w base new answers → Came v w
-installed_came {v} {w} {base} {new} {answers} p =
-    move_on w p.stores (came_trans p.stored p.flushed w (behind_came p.stored p.flushed p.flushes) (releases_old_came p.old p.flushed w answers p.releases))
+installed_came {w = w} p = move_on w p.stores (stored_came p)
 
 pub sets_base_came : {v w : PortValue} {base : Base} {new : Option ℕ} {answers : List Bool} {a : Result (Unit {0}) Stop} → SetsBase v w base new answers a → Came v w
 sets_base_came (course.SetsBase.spent new look) = move_came look

@@ -1,5 +1,5 @@
 -- The step that sets a pin, and the moment behind it.
-use Rattle.std.proofs.Common.{◌≡◌, ◌++◌, ℕ, Bool, List, ◌∷◌, Result, Ok, None, IsTrue, refl, sym, ap, subst, ◌∙◌, Some, ◌≤◌, arith}
+use Rattle.std.proofs.Common.{◌≡◌, ◌++◌, ℕ, Bool, List, Result, Ok, None, IsTrue, refl, sym, ap, subst, ◌∙◌, Some, ◌≤◌, arith}
 use Rattle.xp_words.specs.declared.kind.KindWord.{KindWord}
 use Rattle.xp_words.specs.declared.kind.PageType.{PageType}
 use Rattle.xp_words.specs.declared.place.Place.{Place}
@@ -7,25 +7,22 @@ use Rattle.xp_words.specs.declared.place.Place.TheVariants.{Kind}
 use Rattle.xp_words.specs.declared.reply.Stop.{Stop}
 use Rattle.xp_words.specs.KindWords.{kind_fields, kind_write}
 use Rattle.xp_words.specs.Machine.{Machine}
-use Rattle.xp_words.specs.Places.{is_place, sizes_of}
 use Rattle.xp_words.proofs.KindLaws.{fields_back, fields_in_range}
-use Rattle.xp_words.proofs.PlaceLaws.{memory_same, place_back}
 use Rattle.xp_board.specs.declared.holdings.Made.{Made}
 use Rattle.xp_board.specs.declared.holdings.Holdings.{Holdings}
 use Rattle.xp_board.specs.declared.step.Act.TheVariants.{Cas, Load}
 use Rattle.xp_board.specs.declared.step.Step.{Step}
 use Rattle.xp_board.specs.declared.step.StepKind.TheVariants as kinds
-use Rattle.xp_board.specs.Acts.{left_by}
 use Rattle.xp_board.specs.After.{hands_of}
 use Rattle.xp_board.specs.Lists.{EachOf}
 use Rattle.xp_board.specs.Readings.{kind_at}
 use Rattle.xp_board.specs.Recorded.{HasType}
-use Rattle.xp_board.specs.Runs.{Run, State, next, place_of, start, word_at}
+use Rattle.xp_board.specs.Runs.{Run, State, start, word_at}
 use Rattle.xp_board.specs.Sound.{SoundState, SoundWords, hand_of}
 use Rattle.xp_board.specs.Told.{Post, PortValue}
-use Rattle.step_maker.specs.Moves.{Came, step_at}
+use Rattle.step_maker.specs.Moves.{Came}
 use Rattle.step_maker.proofs.Coming.{came_post, came_trans, moves_came}
-use Rattle.step_maker.proofs.Noting.{made_now, moves_steps, swapped}
+use Rattle.step_maker.proofs.Noting.{swapped}
 use Rattle.sound_rule.proofs.OwnRun.{RunsSound}
 use Rattle.partial_state.specs.Levels.{level_type}
 use Rattle.table_words.specs.Pins.{pinned_kind}
@@ -34,7 +31,8 @@ use Rattle.course_laws.proofs.Stopping.{acquired_came}
 use Rattle.mmuext_ops.specs.Course.{PinEnds, Pinned, SawKind, SetsPin, acquired, lost, pinned, pinned_before, raced, refused, seen, unreferred}
 use Rattle.whole_trees.specs.Whole.{IsToldBySteps, IsWholeTree, WasPinned}
 use Rattle.whole_trees.proofs.Hands.{came_more, run_told, told_on}
-use Rattle.whole_trees.proofs.Moments.{Stood, state, stood}
+use Rattle.whole_trees.proofs.Behind.{IsBehind, is_behind}
+use Rattle.whole_trees.proofs.Moments.{state}
 use Rattle.whole_trees.proofs.Tops.{pinned_whole}
 use Rattle.whole_trees.proofs.Typing.{HasTyped, acquired_has, as_typed}
 
@@ -85,9 +83,6 @@ module _ (n : Machine) (opening : List ℕ) (log : List (ℕ × Step)) (b : Stat
   abbrev new : ℕ
   new = kind_write (pinned_kind k)
 
-  abbrev step : Step
-  step = step_at n (Kind f) (Cas set.word new) kinds.Kind None
-
   own : set.from.post.machine ≡ n
   own = ap (λ (q : Post). q.machine) (came_post v set.from set.before) ∙ machine
 
@@ -96,67 +91,42 @@ module _ (n : Machine) (opening : List ℕ) (log : List (ℕ × Step)) (b : Stat
       subst (λ m. IsToldBySteps m s set.from.holdings) machine
       (told_on v set.from set.before (subst (λ m. IsToldBySteps m s v.holdings) (sym machine) told))
 
-  steps : w.holdings.steps ≡ made_now step set.word ∷ set.from.holdings.steps
-  steps =
-      moves_steps set.from w (Kind f) (Cas set.word new) kinds.Kind None set.word set.sets
-      ∙ ap (λ m. made_now (step_at m (Kind f) (Cas set.word new) kinds.Kind None) set.word ∷ set.from.holdings.steps) own
-
-  there : Stood n opening log s (made_now step set.word) set.from.holdings.steps
-  there = stood n opening s sound runs b log later (made_now step set.word) set.from.holdings.steps run (is ∙ ap (λ xs. later ++ xs) steps)
-
-  abbrev moment : State
-  moment = next n there.before s step
-
-  behind : Run n (start n opening) ((s, step) ∷ there.older) moment
-  behind = (there.before, there.run, there.step)
-
-  is_there : place_of n step ≡ Kind f
-  is_there = place_back (sizes_of n) (Kind f) (subst (λ m. IsTrue (is_place (sizes_of m) (Kind f))) own set.sets.may.place)
+  there : IsBehind n opening log s (Kind f) (Cas set.word new) set.word set.from.holdings.steps
+  there = is_behind n opening log b later s set.from w (Kind f) (Cas set.word new) kinds.Kind set.word sound runs run own is set.sets
 
   -- ---- the moment before it
   state_before : SoundState n there.before.words there.before.hands
-  state_before = state n opening s sound runs there.before there.older there.run
+  state_before = state n opening s sound runs there.before there.earlier there.way
 
   hand_before : hand_of there.before.hands s ≡ set.from.holdings
-  hand_before =
-      run_told n opening s sound runs there.before there.older there.run ∙ ap (λ xs. hands_of n s xs) there.steps
-      ∙ sym told_from
-
-  found_before : word_at n there.before (Kind f) ≡ set.word
-  found_before = ap (word_at n there.before) (sym is_there) ∙ there.found
+  hand_before = run_told n opening s sound runs there.before there.earlier there.way ∙ ap (λ xs. hands_of n s xs) there.steps ∙ sym told_from
 
   kind_before : k.kind ≡ t
   kind_before =
-      ap (λ y. (kind_fields y).kind) (sym found_before)
-      ∙ first_typed (word_at n there.before) f t (hand_of there.before.hands s) (subst (HasTyped f t) (sym hand_before) set.has) (state_before.sound.counts.kinds.typed s there.step.vcpu)
+      ap (λ y. (kind_fields y).kind) (sym there.found_there)
+      ∙ first_typed (word_at n there.before) f t (hand_of there.before.hands s) (subst (HasTyped f t) (sym hand_before) set.has) (state_before.sound.counts.kinds.typed s there.vcpu)
 
   -- ---- the moment behind it
-  word_now : word_at n moment (Kind f) ≡ new
-  word_now =
-      let real = subst (λ p. IsTrue (is_place (sizes_of n) p)) is_there there.step.legal.place in
-      memory_same (sizes_of n) there.before.words (Kind f) (left_by (Cas set.word new) (word_at n there.before (place_of n step))) real state_before.all_words
-      ∙ ap (left_by (Cas set.word new)) there.found ∙ swapped set.word new
+  kind_now : kind_at (word_at n there.moment) f ≡ pinned_kind k
+  kind_now = ap kind_fields (there.left ∙ swapped set.word new) ∙ fields_back (pinned_kind k) (fields_in_range set.word).0 (fields_in_range set.word).1
 
-  kind_now : kind_at (word_at n moment) f ≡ pinned_kind k
-  kind_now = ap kind_fields word_now ∙ fields_back (pinned_kind k) (fields_in_range set.word).0 (fields_in_range set.word).1
-
-  on : IsTrue (kind_at (word_at n moment) f).pinned
+  on : IsTrue (kind_at (word_at n there.moment) f).pinned
   on = ap (λ (y : KindWord). y.pinned) kind_now
 
-  typed_now : (kind_at (word_at n moment) f).kind ≡ t
+  typed_now : (kind_at (word_at n there.moment) f).kind ≡ t
   typed_now = ap (λ (y : KindWord). y.kind) kind_now ∙ kind_before
 
   pub was_pinned : WasPinned n opening log f t
   was_pinned =
       record {
         newer = there.newer;
-        older = (s, step) ∷ there.older;
+        older = there.older;
         parts = there.parts;
-        moment = moment;
-        run = behind;
+        moment = there.moment;
+        run = there.run;
         pinned = on;
         kind = typed_now;
-        whole = subst (λ u. IsWholeTree n (word_at n moment) f u) typed_now (pinned_whole n (word_at n moment) (hand_of moment.hands) (state n opening s sound runs moment ((s, step) ∷ there.older) behind).sound f on).1;
+        whole = subst (λ u. IsWholeTree n (word_at n there.moment) f u) typed_now (pinned_whole n (word_at n there.moment) (hand_of there.moment.hands) (state n opening s sound runs there.moment there.older there.run).sound f on).1;
       }
 
 pub pin_was_set : RunsSound → (n : Machine) (opening : List ℕ) (log : List (ℕ × Step)) (b : State) (v w z : PortValue) (d f level : ℕ) (answers : List Bool) →

@@ -56,3 +56,14 @@ pub record WasPinned (n : Machine) (opening : List ℕ) (log : List (ℕ × Step
   pub pinned : IsTrue (kind_at (word_at n moment) f).pinned
   pub kind : (kind_at (word_at n moment) f).kind ≡ t
   pub whole : IsWholeTree n (word_at n moment) f t
+
+-- At some moment of it that base of vCPU s (0: the kernel's, 1: the user's) names frame f, a top table of the vCPU's own domain, and whole.
+pub record WasBase (n : Machine) (opening : List ℕ) (log : List (ℕ × Step)) (s k f : ℕ) : Type 0 where
+  pub newer : List (ℕ × Step)
+  pub older : List (ℕ × Step)
+  pub parts : log ≡ newer ++ older
+  pub moment : State
+  pub run : Run n (start n opening) older moment
+  pub names : word_at n moment (Vcpu s k) ≡ f + 1
+  pub owner : owner_of (word_at n moment (Refs f)) ≡ Some (domain_of n s)
+  pub whole : IsWholeTree n (word_at n moment) f L4

@@ -16,9 +16,12 @@ ghost use Rattle.xp_board.specs.Sound.{Sound, SoundState, SoundWords, hand_of};
 ghost use Rattle.xp_board.specs.Told.{PortValue};
 ghost use Rattle.step_maker.specs.Moves.{Came};
 ghost use Rattle.partial_state.specs.Levels.{level_type};
+ghost use Rattle.table_bases.specs.Course.{SetsBase};
+ghost use Rattle.table_bases.specs.Holding.{base_number};
+ghost use Rattle.table_bases.specs.declared.words.Base.{Base};
 ghost use Rattle.mmuext_ops.specs.Course.{Pinned};
 ghost use Rattle.vcpu_turn.specs.Ext.{ExtFits};
-ghost use Rattle.whole_trees.specs.Whole.{AllWhole, IsToldBySteps, IsWholeTree, LeadsDown, WasPinned};
+ghost use Rattle.whole_trees.specs.Whole.{AllWhole, IsToldBySteps, IsWholeTree, LeadsDown, WasBase, WasPinned};
 
 use sound_rule::every_run_stays_sound;
 
@@ -50,7 +53,17 @@ pub fn a_pin_that_is_done_is_whole_as_it_is_set()
     every_run_stays_sound();
 }
 
-/// So of each element of a list of `mmuext_op` that is a pin, by commands 0 to 3, and that a turn did.
+/// A new base that is set, the kernel's or the user's: at the moment behind the store the word names the frame, which is a top table of the vCPU's own domain, and all
+/// that it leads to is validated.
+pub fn a_base_that_is_set_is_whole_as_it_is_stored()
+    ensures { (n : Machine) (opening : List ℕ) (log : List (ℕ × Step)) (b : State) (v w z : PortValue) (base : Base) (f : ℕ) (answers : List Bool) →
+        SoundWords n opening → Run n (start n opening) log b → v.post.machine ≡ n → (hand_of b.hands v.post.vcpu).steps ≡ z.holdings.steps → SetsBase v w base (Some f) answers (Ok tt) → Came w z →
+        WasBase n opening log v.post.vcpu (base_number base) f }
+{
+    every_run_stays_sound();
+}
+
+/// A pin that is an element of a list of `mmuext_op`, by commands 0 to 3, and that a turn did.
 pub fn a_pin_in_a_list_is_whole_as_it_is_set()
     ensures { (n : Machine) (opening : List ℕ) (log : List (ℕ × Step)) (b : State) (v w z : PortValue) (d from k : ℕ) (awaited : Option ℕ) (list : List ExtOp) (op : ExtOp) (answers : List Bool) →
         SoundWords n opening → Run n (start n opening) log b → v.post.machine ≡ n → IsToldBySteps n v.post.vcpu v.holdings → (hand_of b.hands v.post.vcpu).steps ≡ z.holdings.steps →

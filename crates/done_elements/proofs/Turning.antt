@@ -1,4 +1,4 @@
--- What a turn adds to the pins that are done by the replies of its vCPU.
+-- What a turn adds to the elements that are done by the replies of its vCPU.
 use Rattle.std.proofs.Common.{◌≡◌, ◌+◌, ◌<◌, ◌++◌, ◌⊎◌, ℕ, Bool, true, List, [], ◌∷◌, All, Contains, Option, Some, None, Result, Ok, Err, refl, sym, ap, subst, ◌∙◌, inl, inr, arith}
 use Rattle.std.specs.Prelude.{slice_get}
 use Rattle.std.proofs.lemmas.Bool.{cases_lt}
@@ -35,12 +35,12 @@ use Rattle.vcpu_turn.proofs.CallsBringing.{went_brings}
 use Rattle.vcpu_turn.proofs.Hindering.{settles_came}
 use Rattle.vcpu_turn.proofs.TurnSteps.{ends_came}
 use Rattle.vcpu_turn.proofs.Turns.{begins_came}
-use Rattle.pin_replies.specs.Replied.{StandsAt, alone, called}
-use Rattle.pin_replies.proofs.Elements.{Did, did_on, through}
+use Rattle.done_elements.specs.Replied.{StandsAt, alone, called}
+use Rattle.done_elements.proofs.Elements.{Did, did_on, through}
 
--- each pin among the first n elements of the list is such
+-- each of the first n elements of the list is such
 abbrev pub AreDone : (ExtOp → Type 0) → List ExtOp → ℕ → Type 0
-AreDone P list n = (k : ℕ) (e : ExtOp) → k < n → slice_get list k ≡ Some e → e.command < 4 → P e
+AreDone P list n = (k : ℕ) (e : ExtOp) → k < n → slice_get list k ≡ Some e → P e
 
 -- by the replies of a log; and of what is in progress
 abbrev pub AreReplied : (ExtOp → Type 0) → Processing → List LogLine → Type 0
@@ -56,8 +56,8 @@ pub record Keeps (P : ExtOp → Type 0) (c : Processing) : Type 0 where
 pub keeps_more : (P Q : ExtOp → Type 0) (c : Processing) → ((e : ExtOp) → P e → Q e) → Keeps P c → Keeps Q c
 keeps_more P Q c goes keeps =
     record {
-      old = λ op call list reply stands in_it k e less is low. goes e (keeps.old op call list reply stands in_it k e less is low);
-      now = λ list is k e less at low. goes e (keeps.now list is k e less at low);
+      old = λ op call list reply stands in_it k e less is. goes e (keeps.old op call list reply stands in_it k e less is);
+      now = λ list is k e less at. goes e (keeps.now list is k e less at);
     }
 
 -- ---- lines that answer nothing
@@ -87,12 +87,12 @@ went_before {number = number} {log = log} went op call reply in_it =
 -- ---- the elements of one task
 went_elements : (P : ExtOp → Type 0) (d : ℕ) (task : Option Task) (number : CallNumber) (v : PortValue) (from to : Progress) (w : PortValue) (log log' : List LogLine) (answers : List Bool) (answer : Result ℕ Stop) → ((e : ExtOp) → Did v w e → P e) →
     AreBehind P task from.done → WentOn d task number v from to w log log' answers answer → AreBehind P task to.done
-went_elements P d task number v from to w log log' answers answer did was went list is k e less at low =
+went_elements P d task number v from to w log log' answers answer did was went list is k e less at =
     elim (cases_lt k from.done) [
-      | inl before ↦ was list is k e before at low
+      | inl before ↦ was list is k e before at
       | inr later ↦
           (let by = (subst (λ x. WentOn d x number v from to w log log' answers answer) is went).works in
-          did e (through d list from.done from.awaited from.done v k e at low (omega arith) to.done w answers by.ended by.works less))
+          did e (through d list from.done from.awaited from.done v k e at (omega arith) to.done w answers by.ended by.works less))
     ]
 
 -- ---- calls of a multicall
@@ -119,8 +119,8 @@ module _ (P : ExtOp → Type 0) (c : Processing) (calls : List Call) (is_multi :
   on_way u w at log came k =
       record {
         came = came_trans v u w k.came came;
-        old = λ op call list reply stands in_it j e less is low. further u w e came (k.old op call list reply stands in_it j e less is low);
-        now = λ list is j e less here low. further u w e came (k.now list is j e less here low);
+        old = λ op call list reply stands in_it j e less is. further u w e came (k.old op call list reply stands in_it j e less is);
+        now = λ list is j e less here. further u w e came (k.now list is j e less here);
       }
 
   -- the call that stands next went on
@@ -132,10 +132,10 @@ module _ (P : ExtOp → Type 0) (c : Processing) (calls : List Call) (is_multi :
     elements : AreBehind (Q x) (task_in call) to.done
     elements =
         went_elements (Q x) c.domain (task_in call) _ u at to x log log' asked answer (λ e d. inr (did_on v u x x e k.came d (came_self x)))
-        (λ list is j e less here low. further u x e goes (k.now list (ap task_called stands ∙ is) j e less here low)) went
+        (λ list is j e less here. further u x e goes (k.now list (ap task_called stands ∙ is) j e less here)) went
 
     old_behind : AreReplied (Q x) c log'
-    old_behind op number list reply place in_it j e less is low = further u x e goes (k.old op number list reply place (went_before went op number reply in_it) j e less is low)
+    old_behind op number list reply place in_it j e less is = further u x e goes (k.old op number list reply place (went_before went op number reply in_it) j e less is)
 
     behind : Calls x to log'
     behind =
@@ -169,7 +169,7 @@ module _ (P : ExtOp → Type 0) (c : Processing) (calls : List Call) (is_multi :
           ]
 
       answered_call : Calls x (begun_at (at.call + 1)) (log' ++ lines.Answer (c.answered + 1) (at.call + 1) reply ∷ [])
-      answered_call = record { came = came_trans v u x k.came goes; old = answered_old; now = λ list is j e less here low. absurd (omega arith) }
+      answered_call = record { came = came_trans v u x k.came goes; old = answered_old; now = λ list is j e less here. absurd (omega arith) }
 
   call_keeps : (call : Call) (at : Progress) (u : PortValue) (log : List LogLine) (to : Progress) (w : PortValue) (log' : List LogLine) (asked : List Bool) (r : Result (Unit {0}) Stop) → slice_get calls at.call ≡ Some call → Calls u at log →
       AnswersCall c.domain call (c.answered + 1) u at log to w log' asked r → Calls w to log'
@@ -193,7 +193,7 @@ module _ (P : ExtOp → Type 0) (c : Processing) (to : Progress) (log : List Log
           | inl before ↦ old op call list r place before
           | inr same ↦ this op call list r place same
         ];
-        now = λ list at k e less is low. absurd (omega arith);
+        now = λ list at k e less is. absurd (omega arith);
       }
     where
       this : (op call : ℕ) (list : List ExtOp) (r : Reply) → StandsAt c.script op call list → lines.Answer (c.answered + 1) 0 reply ≡ lines.Answer op call r → AreDone P list r.done
@@ -238,15 +238,15 @@ module _ (P : ExtOp → Type 0) (c : Processing) (keeps : Keeps P c) where
         first =
             record {
               came = came_self v;
-              old = λ op call list reply place in_it k e less is low. inl (keeps.old op call list reply place in_it k e less is low);
-              now = λ list is k e less at low. inl (keeps.now list (ap (λ o. task_at (job_next o) c.at.call) next ∙ is) k e less at low);
+              old = λ op call list reply place in_it k e less is. inl (keeps.old op call list reply place in_it k e less is);
+              now = λ list is k e less at. inl (keeps.now list (ap (λ o. task_at (job_next o) c.at.call) next ∙ is) k e less at);
             }
 
         none_whole : (m : ℕ) (list : List ExtOp) → next_of c ≡ Some (One (Ext list)) → AreDone P list m
         none_whole m list at = absurd (let e : Some (Multi calls) ≡ Some (One (Ext list)) = sym next ∙ at in cc)
 
         settled : (x : PortValue) (y : Progress) (l : List LogLine) → ((e : ExtOp) → Did v x e → P e) → Calls P c calls next v x y l → AreReplied P c l
-        settled x y l says k op call list reply place in_it j e less is low = elim (k.old op call list reply place in_it j e less is low) [ inl was ↦ was | inr d ↦ says e d ]
+        settled x y l says k op call list reply place in_it j e less is = elim (k.old op call list reply place in_it j e less is) [ inl was ↦ was | inr d ↦ says e d ]
 
         by : (r : Result (Unit {0}) Stop) → answer ≡ valued r → (y : Progress) (x : PortValue) (l : List LogLine) (asked : List Bool) → WorksCalls c.domain calls (c.answered + 1) v c.at c.log y x l asked r → ((e : ExtOp) → Did v x e → P e) → Keeps P (after_turn c y l (end_of y.done answer))
         by _ is _ _ _ _ (calling.WorksCalls.long above) says =
@@ -258,7 +258,7 @@ module _ (P : ExtOp → Type 0) (c : Processing) (keeps : Keeps P c) where
         by _ is _ _ _ _ (calling.WorksCalls.stopped at y u x call before l asked more stop few done here stops) says =
             let k = call_keeps P c calls next v call at u before y x l more (Err stop) here (calls_keep P c calls next v c.at c.log at u before asked first done) stops in
             ended P c y l (settled x y l says k) answer (none_whole y.done)
-            (λ p paused list task j e less at_it low. elim (k.now list (sym (ap (λ o. task_at (job_next o) y.call) next) ∙ task) j e less at_it low) [ inl was ↦ was | inr d ↦ says e d ])
+            (λ p paused list task j e less at_it. elim (k.now list (sym (ap (λ o. task_at (job_next o) y.call) next) ∙ task) j e less at_it) [ inl was ↦ was | inr d ↦ says e d ])
 
     -- a destruction
     destroy_keeps : (x : ℕ) → job_next (next_of c) ≡ OfDestroy x → WentBy c.domain (OfDestroy x) (c.answered + 1) v c.at to w c.log log answers answer → Keeps P (after_turn c to log (end_of to.done answer))

@@ -23,10 +23,10 @@ use Rattle.vcpu_runners.specs.Cpus.{first_cpus}
 use Rattle.vcpu_runners.specs.Replayed.{RanInThreads, TookTurns, more, none, port_with}
 use Rattle.xp_preempt.specs.Gates.{Gate}
 use Rattle.whole_trees.proofs.Hands.{none_told}
-use Rattle.pin_replies.specs.Replied.{RepliedPin}
-use Rattle.pin_replies.proofs.Elements.{Did, did_on}
-use Rattle.pin_replies.proofs.Fresh.{WasWhole, did_whole, keeps_first}
-use Rattle.pin_replies.proofs.Turning.{Keeps, keeps_more, turn_keeps}
+use Rattle.done_elements.specs.Replied.{RepliedElement, WasSet}
+use Rattle.done_elements.proofs.Elements.{Did, did_on}
+use Rattle.done_elements.proofs.Fresh.{did_whole, keeps_first}
+use Rattle.done_elements.proofs.Turning.{Keeps, keeps_more, turn_keeps}
 
 record Kept (o w : PortValue) (c : Processing) : Type 0 where
   came : Came o w
@@ -55,7 +55,7 @@ opened_sound rests n opening words hands run =
     rests n opening (replicate (sizes_of n).vcpus empty) (run.always run.one.log [] (start n opening) (sym (append-nil run.one.log)) refl).0 (λ s real. subst IsEmptyHand (sym (all_empty (sizes_of n).vcpus s)) none_in_hand)
 
 module _ (runs : RunsSound) (rests : RestsSound) (b : BoardValue) (scripts : List (List Op)) (gates left : List Gate) (words : List ℕ) (cpus : List Processing) (ran : RanInThreads b gates (first_cpus b.machine scripts) words left cpus) where
-  pub threads_whole : (s : ℕ) (c : Processing) (e : ExtOp) → slice_get cpus s ≡ Some c → RepliedPin c e → WasWhole b.machine b.opening ran.run.one.log e
+  pub threads_whole : (s : ℕ) (c : Processing) (e : ExtOp) → slice_get cpus s ≡ Some c → RepliedElement c e → WasSet b.machine b.opening ran.run.one.log s e
   threads_whole s c e at p =
       let first = first_cpus b.machine scripts in
       let within : s < length first = (let k = slice_get_within cpus s c at in let all = ran.all in omega arith) in
@@ -66,4 +66,4 @@ module _ (runs : RunsSound) (rests : RestsSound) (b : BoardValue) (scripts : Lis
       let w = port_with b s r.lender (hand_of ran.hands s) in
       let kept = took_keeps o r.gate c0 o r.asked c w r.turns (record { came = came_self o; keeps = keeps_first (Did o o) b.machine scripts s c0 at0 }) in
       did_whole b.machine b.opening ran.run.one.log (record { words = words; hands = ran.hands }) o w (opened_sound rests b.machine b.opening words ran.hands ran.run) runs ran.run.one.run refl (none_told b.machine s empty refl) refl e
-      (kept.keeps.old p.op p.call p.list p.reply p.stands p.answered p.k e p.counted p.element p.pins)
+      (kept.keeps.old p.op p.call p.list p.reply p.stands p.answered p.k e p.counted p.element)
