@@ -1,5 +1,5 @@
 -- Before a vCPU's first turn no element is done; and what elements that are done named was whole.
-use Rattle.std.proofs.Common.{◌≡◌, ◌≢◌, ◌+◌, ◌<◌, ◌==◌, nat_lt, ℕ, true, false, List, [], Contains, Option, Some, None, Ok, refl, sym, ap, subst, ◌∙◌, arith}
+use Rattle.std.proofs.Common.{◌≡◌, ◌≢◌, ◌+◌, ◌<◌, ◌==◌, ℕ, true, false, List, [], Contains, Option, Some, None, Ok, refl, sym, ap, subst, ◌∙◌, arith}
 use Rattle.std.specs.Prelude.{slice_get}
 use Rattle.std.specs.List.{enumerate_from}
 use Rattle.std.specs.Option.{option_map}
@@ -30,6 +30,7 @@ use Rattle.vcpu_runners.specs.Cpus.{first_cpu, first_cpus}
 use Rattle.whole_trees.specs.Whole.{IsToldBySteps, WasBase}
 use Rattle.whole_trees.proofs.Hands.{told_on}
 use Rattle.whole_trees.proofs.Basing.{base_was_set}
+use Rattle.whole_trees.proofs.Listed.{is_pin}
 use Rattle.whole_trees.proofs.Pinning.{pin_was_set}
 use Rattle.done_elements.specs.Replied.{WasSet}
 use Rattle.done_elements.proofs.Elements.{Did}
@@ -60,9 +61,6 @@ keeps_first P n scripts s c is =
     }
 
 -- ---- on a run
-is_pin : (e : ExtOp) → e.command < 4 → ext_element e ≡ Pin e.first (e.command + 1)
-is_pin e low = let k : nat_lt e.command 4 ≡ true = grind (arith, nat_tests) in rw k refl
-
 is_kernel : (e : ExtOp) → e.command ≡ 5 → ext_element e ≡ NewBase e.first
 is_kernel e five = rw five refl
 

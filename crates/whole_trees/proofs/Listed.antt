@@ -29,7 +29,7 @@ pub record PinsIn (v w : PortValue) (d f level : ℕ) : Type 0 where
   pub answers : List Bool
   pub pins : Pinned from w d f level answers (Ok tt)
 
-is_pin : (op : ExtOp) → op.command < 4 → ext_element op ≡ Pin op.first (op.command + 1)
+pub is_pin : (op : ExtOp) → op.command < 4 → ext_element op ≡ Pin op.first (op.command + 1)
 is_pin op low = let e : nat_lt op.command 4 ≡ true = grind (arith, nat_tests) in rw e refl
 
 pub pins_in : (d : ℕ) (op : ExtOp) (awaited : Option ℕ) (v w : PortValue) (answers : List Bool) (r : Result (Unit {0}) Stop) → op.command < 4 → SettlesFirst (Performs d (ext_element op) awaited) v w answers r → r ≡ Ok tt → PinsIn v w d op.first (op.command + 1)
