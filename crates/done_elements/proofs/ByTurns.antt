@@ -6,6 +6,8 @@ use Rattle.std.proofs.lemmas.List.{get_or-set_other}
 use Rattle.std.proofs.lemmas.Option.{get_or_from_slice_get, slice_get-get_or, slice_get_within}
 use Rattle.xp_words.specs.declared.kind.PageType.{PageType}
 use Rattle.xp_words.specs.declared.ops.ExtOp.{ExtOp}
+use Rattle.xp_words.specs.declared.place.Place.{Place}
+use Rattle.xp_words.specs.declared.place.Place.TheVariants.{Kind, Vcpu}
 use Rattle.xp_words.specs.Machine.{Machine}
 use Rattle.xp_board.specs.declared.holdings.Made.{Made}
 use Rattle.xp_board.specs.declared.step.Step.{Step}
@@ -18,7 +20,7 @@ use Rattle.vcpu_turn.specs.Cpus.{Processing}
 use Rattle.xp_machine.specs.Pieces.{Leads, Piece, log_by}
 use Rattle.xp_machine.specs.Turns as staged
 use Rattle.xp_machine.specs.Turns.{ByCpu, InOrder, MakesStagedStop, MakesStagedTurn, Stage, UnlessRetired, WorksOff, port_on}
-use Rattle.whole_trees.specs.Whole.{WasBase, WasPinned}
+use Rattle.whole_trees.specs.Whole.{IsSetIn, WasBase, WasPinned}
 use Rattle.whole_trees.proofs.Hands.{run_told}
 use Rattle.done_elements.specs.Replied.{WasSet}
 use Rattle.done_elements.proofs.Fresh.{did_whole}
@@ -44,38 +46,38 @@ piece_run n v o a b log [] run piece = subst (runs.Run n o log) (sym piece) run
 piece_run n v o a b log (x ∷ xs) run piece = (piece.0, piece_run n v o a piece.0 log xs run piece.1, piece.2)
 
 -- ---- what was so in a run was so in one that goes on
-pinned_later : (n : Machine) (opening : List ℕ) (more log longer : List (ℕ × Step)) (f : ℕ) (t : PageType) → longer ≡ more ++ log → WasPinned n opening log f t → WasPinned n opening longer f t
-pinned_later n opening more log longer f t is was =
-    record {
-      newer = more ++ was.newer;
-      older = was.older;
-      parts = is ∙ ap (λ l. more ++ l) was.parts ∙ sym (append_assoc more was.newer was.older);
-      moment = was.moment;
-      run = was.run;
-      pinned = was.pinned;
-      kind = was.kind;
-      whole = was.whole;
-    }
+module _ (n : Machine) (opening : List ℕ) (more log longer : List (ℕ × Step)) (s : ℕ) (first last : List Made) (is : longer ≡ more ++ log) where
+  set_later : (p : Place) (before moment : runs.State) → IsSetIn n opening log s first last p before moment → IsSetIn n opening longer s first last p before moment
+  set_later p before moment was =
+      record {
+        newer = more ++ was.newer;
+        earlier = was.earlier;
+        step = was.step;
+        parts = is ∙ ap (λ l. more ++ l) was.parts ∙ sym (append_assoc more was.newer ((s, was.step) ∷ was.earlier));
+        run = was.run;
+        made = was.made;
+        place = was.place;
+        since = was.since;
+        begins = was.begins;
+        later = was.later;
+        ends = was.ends;
+      }
 
-base_later : (n : Machine) (opening : List ℕ) (more log longer : List (ℕ × Step)) (s k f : ℕ) → longer ≡ more ++ log → WasBase n opening log s k f → WasBase n opening longer s k f
-base_later n opening more log longer s k f is was =
-    record {
-      newer = more ++ was.newer;
-      older = was.older;
-      parts = is ∙ ap (λ l. more ++ l) was.parts ∙ sym (append_assoc more was.newer was.older);
-      moment = was.moment;
-      run = was.run;
-      names = was.names;
-      owner = was.owner;
-      whole = was.whole;
-    }
+  pinned_later : (f : ℕ) (t : PageType) → WasPinned n opening log s first last f t → WasPinned n opening longer s first last f t
+  pinned_later f t was =
+      record { before = was.before; moment = was.moment; set = set_later (Kind f) was.before was.moment was.set; unpinned = was.unpinned; pinned = was.pinned; kind = was.kind; whole = was.whole }
+
+  base_later : (k f : ℕ) → WasBase n opening log s first last k f → WasBase n opening longer s first last k f
+  base_later k f was = record { before = was.before; moment = was.moment; set = set_later (Vcpu s k) was.before was.moment was.set; names = was.names; owner = was.owner; whole = was.whole }
 
 later : (n : Machine) (opening : List ℕ) (more log longer : List (ℕ × Step)) (s : ℕ) (e : ExtOp) → longer ≡ more ++ log → WasSet n opening log s e → WasSet n opening longer s e
 later n opening more log longer s e is was =
     record {
-      pin = λ low. pinned_later n opening more log longer e.first (level_type (e.command + 1)) is (was.pin low);
-      kernel = λ five. base_later n opening more log longer s 0 e.first is (was.kernel five);
-      user = λ fifteen some. base_later n opening more log longer s 1 e.first is (was.user fifteen some);
+      first = was.first;
+      last = was.last;
+      pin = λ low. pinned_later n opening more log longer s was.first was.last is e.first (level_type (e.command + 1)) (was.pin low);
+      kernel = λ five. base_later n opening more log longer s was.first was.last is 0 e.first (was.kernel five);
+      user = λ fifteen some. base_later n opening more log longer s was.first was.last is 1 e.first (was.user fifteen some);
     }
 
 module _ (sounds : RunsSound) (n : Machine) (opening : List ℕ) (sound : SoundWords n opening) where

@@ -1,5 +1,5 @@
 -- Before a vCPU's first turn no element is done; and what elements that are done named was whole.
-use Rattle.std.proofs.Common.{◌≡◌, ◌≢◌, ◌+◌, ◌<◌, ◌==◌, ℕ, true, false, List, [], Contains, Option, Some, None, Ok, refl, sym, ap, subst, ◌∙◌, arith}
+use Rattle.std.proofs.Common.{◌≡◌, ◌≢◌, ◌+◌, ◌<◌, ◌==◌, nat_lt, ℕ, true, false, List, [], Contains, Option, Some, None, Ok, refl, sym, ap, subst, ◌∙◌, arith}
 use Rattle.std.specs.Prelude.{slice_get}
 use Rattle.std.specs.List.{enumerate_from}
 use Rattle.std.specs.Option.{option_map}
@@ -15,6 +15,7 @@ use Rattle.xp_board.specs.Sound.{SoundWords, hand_of}
 use Rattle.xp_board.specs.Told.{Post, PortValue}
 use Rattle.step_maker.proofs.Coming.{came_post}
 use Rattle.sound_rule.proofs.OwnRun.{RunsSound}
+use Rattle.partial_state.specs.Levels.{level_type}
 use Rattle.table_bases.specs.Asking.{user_frame}
 use Rattle.table_bases.specs.Course.{SetsBase}
 use Rattle.table_bases.specs.Holding.{base_number}
@@ -27,10 +28,9 @@ use Rattle.mmuext_ops.specs.declared.element.Element.TheVariants.{NewBase, NewUs
 use Rattle.vcpu_turn.specs.Cpus.{Processing, begun}
 use Rattle.vcpu_turn.specs.declared.cpu.Progress.{Progress}
 use Rattle.vcpu_runners.specs.Cpus.{first_cpu, first_cpus}
-use Rattle.whole_trees.specs.Whole.{IsToldBySteps, WasBase}
+use Rattle.whole_trees.specs.Whole.{IsToldBySteps, WasBase, WasPinned}
 use Rattle.whole_trees.proofs.Hands.{told_on}
 use Rattle.whole_trees.proofs.Basing.{base_was_set}
-use Rattle.whole_trees.proofs.Listed.{is_pin}
 use Rattle.whole_trees.proofs.Pinning.{pin_was_set}
 use Rattle.done_elements.specs.Replied.{WasSet}
 use Rattle.done_elements.proofs.Elements.{Did}
@@ -61,6 +61,9 @@ keeps_first P n scripts s c is =
     }
 
 -- ---- on a run
+is_pin : (e : ExtOp) → e.command < 4 → ext_element e ≡ Pin e.first (e.command + 1)
+is_pin e low = let k : nat_lt e.command 4 ≡ true = grind (arith, nat_tests) in rw k refl
+
 is_kernel : (e : ExtOp) → e.command ≡ 5 → ext_element e ≡ NewBase e.first
 is_kernel e five = rw five refl
 
@@ -86,17 +89,23 @@ module _ (n : Machine) (opening : List ℕ) (log : List (ℕ × Step)) (b : Stat
   steps_there : (hand_of b.hands d.before.post.vcpu).steps ≡ w.holdings.steps
   steps_there = ap (λ (q : Post). (hand_of b.hands q.vcpu).steps) post ∙ is
 
-  set_base : (base : Base) (f : ℕ) → SetsBase d.before d.behind base (Some f) d.answers (Ok tt) → WasBase n opening log v.post.vcpu (base_number base) f
+  set_base : (base : Base) (f : ℕ) → SetsBase d.before d.behind base (Some f) d.answers (Ok tt) → WasBase n opening log v.post.vcpu d.before.holdings.steps d.behind.holdings.steps (base_number base) f
   set_base base f sets =
-      subst (λ (q : Post). WasBase n opening log q.vcpu (base_number base) f) post (base_was_set runs n opening log b d.before d.behind w base f d.answers sound run own steps_there sets d.goes)
+      subst (λ (q : Post). WasBase n opening log q.vcpu d.before.holdings.steps d.behind.holdings.steps (base_number base) f) post (base_was_set runs n opening log b d.before d.behind w base f d.answers sound run own steps_there sets d.goes)
 
   by_element : (x : Element) → ext_element e ≡ x → Performed d.before d.behind d.domain x d.awaited d.answers (Ok tt)
   by_element x same = subst (λ y. Performed d.before d.behind d.domain y d.awaited d.answers (Ok tt)) same d.performed
 
+  pin_here : e.command < 4 → WasPinned n opening log d.before.post.vcpu d.before.holdings.steps d.behind.holdings.steps e.first (level_type (e.command + 1)) →
+      WasPinned n opening log v.post.vcpu d.before.holdings.steps d.behind.holdings.steps e.first (level_type (e.command + 1))
+  pin_here low was = subst (λ (q : Post). WasPinned n opening log q.vcpu d.before.holdings.steps d.behind.holdings.steps e.first (level_type (e.command + 1))) post was
+
   pub did_whole : WasSet n opening log v.post.vcpu e
   did_whole =
       record {
-        pin = λ low. pin_was_set runs n opening log b d.before d.behind w d.domain e.first (e.command + 1) d.answers sound run own told_there steps_there (omega arith) (by_element (Pin e.first (e.command + 1)) (is_pin e low)) d.goes;
+        first = d.before.holdings.steps;
+        last = d.behind.holdings.steps;
+        pin = λ low. pin_here low (pin_was_set runs n opening log b d.before d.behind w d.domain e.first (e.command + 1) d.answers sound run own told_there steps_there (omega arith) (by_element (Pin e.first (e.command + 1)) (is_pin e low)) d.goes);
         kernel = λ five. set_base Kernel e.first (by_element (NewBase e.first) (is_kernel e five));
         user = λ fifteen some. set_base User e.first (subst (λ o. SetsBase d.before d.behind User o d.answers (Ok tt)) (names_frame e.first some) (by_element (NewUserBase e.first) (is_user e fifteen)));
       }

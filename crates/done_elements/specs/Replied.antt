@@ -8,6 +8,7 @@ use Rattle.xp_words.specs.declared.ops.Op.TheVariants.{Multi, One}
 use Rattle.xp_words.specs.declared.reply.LogLine.TheVariants.{Answer}
 use Rattle.xp_words.specs.declared.reply.Reply.{Reply}
 use Rattle.xp_words.specs.Machine.{Machine}
+use Rattle.xp_board.specs.declared.holdings.Made.{Made}
 use Rattle.xp_board.specs.declared.step.Step.{Step}
 use Rattle.partial_state.specs.Levels.{level_type}
 use Rattle.vcpu_turn.specs.Cpus.{Processing}
@@ -31,9 +32,12 @@ pub record RepliedElement (c : Processing) (e : ExtOp) : Type 0 where
   pub counted : k < reply.done
   pub element : slice_get list k ≡ Some e
 
--- At some moment of a run what element e of vCPU s names was whole: a pin (commands 0 to 3) of its frame, as a table of its level; a new base of the kernel
--- (command 5); and one of the user (command 15), where it names a frame.
+-- By a step of vCPU s on a run what element e names was set: a pin (commands 0 to 3), of its frame as a table of its level; a new base of the kernel
+-- (command 5); and one of the user (command 15), where it names a frame. At the moment behind that step the frame was whole.
 pub record WasSet (n : Machine) (opening : List ℕ) (log : List (ℕ × Step)) (s : ℕ) (e : ExtOp) : Type 0 where
-  pub pin : e.command < 4 → WasPinned n opening log e.first (level_type (e.command + 1))
-  pub kernel : e.command ≡ 5 → WasBase n opening log s 0 e.first
-  pub user : e.command ≡ 15 → e.first ≢ 0 → WasBase n opening log s 1 e.first
+  -- between these steps of the vCPU's own, those before the element and those up to its end
+  pub first : List Made
+  pub last : List Made
+  pub pin : e.command < 4 → WasPinned n opening log s first last e.first (level_type (e.command + 1))
+  pub kernel : e.command ≡ 5 → WasBase n opening log s first last 0 e.first
+  pub user : e.command ≡ 15 → e.first ≢ 0 → WasBase n opening log s first last 1 e.first

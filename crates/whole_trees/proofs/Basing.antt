@@ -74,21 +74,23 @@ module _ (n : Machine) (opening : List ℕ) (log : List (ℕ × Step)) (b : Stat
   stores : Moves set.from set.stored (Vcpu s k) (Store (f + 1)) kinds.Context None set.old
   stores = subst (λ (q : Post). Moves set.from set.stored (Vcpu q.vcpu k) (Store (f + 1)) kinds.Context None set.old) post set.stores
 
-  there : IsBehind n opening log s (Vcpu s k) (Store (f + 1)) set.old set.from.holdings.steps
+  there : IsBehind n opening log s (Vcpu s k) (Store (f + 1)) set.old v.holdings.steps w.holdings.steps set.from.holdings.steps
   there =
       let more = came_more set.stored z (came_trans set.stored w z set.behind goes) in
-      is_behind n opening log b more.0 s set.from set.stored (Vcpu s k) (Store (f + 1)) kinds.Context set.old sound runs run own (is ∙ more.1) stores
+      let first = came_more v set.from set.before in
+      let rest = came_more set.stored w set.behind in
+      is_behind n opening log b more.0 s set.from set.stored (Vcpu s k) (Store (f + 1)) kinds.Context set.old sound runs run own (is ∙ more.1) stores v.holdings.steps first.0 w.holdings.steps rest.0 first.1 rest.1
 
   names : word_at n there.moment (Vcpu s k) ≡ f + 1
   names = there.left ∙ stored_is (f + 1) set.old
 
-  was_base : WasBase n opening log s k f
+  was_base : WasBase n opening log s v.holdings.steps w.holdings.steps k f
   was_base =
       let all = all_whole n (word_at n there.moment) (hand_of there.moment.hands) (state n opening s sound runs there.moment there.older there.run).sound in
-      let top = all.bases s k f there.vcpu (small_base base) names in
-      record { newer = there.newer; older = there.older; parts = there.parts; moment = there.moment; run = there.run; names = names; owner = top.0; whole = top.1 }
+      let top = all.bases s k f there.set.made.vcpu (small_base base) names in
+      record { before = there.before; moment = there.moment; set = there.set; names = names; owner = top.0; whole = top.1 }
 
 pub base_was_set : RunsSound → (n : Machine) (opening : List ℕ) (log : List (ℕ × Step)) (b : State) (v w z : PortValue) (base : Base) (f : ℕ) (answers : List Bool) →
     SoundWords n opening → Run n (start n opening) log b → v.post.machine ≡ n → (hand_of b.hands v.post.vcpu).steps ≡ z.holdings.steps → SetsBase v w base (Some f) answers (Ok tt) → Came w z →
-    WasBase n opening log v.post.vcpu (base_number base) f
+    WasBase n opening log v.post.vcpu v.holdings.steps w.holdings.steps (base_number base) f
 base_was_set runs n opening log b v w z base f answers sound run machine is sets goes = was_base n opening log b v w z base f sound runs run machine is (set_by_base v w base f (Some f) answers (Ok tt) sets refl refl) goes

@@ -6,4 +6,3 @@ pub mod Hands
 pub mod Typing
 pub mod Pinning
 pub mod Basing
-pub mod Listed

@@ -1,5 +1,5 @@
 -- The step that sets a pin, and the moment behind it.
-use Rattle.std.proofs.Common.{◌≡◌, ◌++◌, ℕ, Bool, List, Result, Ok, None, IsTrue, refl, sym, ap, subst, ◌∙◌, Some, ◌≤◌, arith}
+use Rattle.std.proofs.Common.{◌≡◌, ◌++◌, ℕ, Bool, false, List, [], Result, Ok, None, IsTrue, refl, sym, ap, subst, ◌∙◌, Some, ◌≤◌, arith}
 use Rattle.xp_words.specs.declared.kind.KindWord.{KindWord}
 use Rattle.xp_words.specs.declared.kind.PageType.{PageType}
 use Rattle.xp_words.specs.declared.place.Place.{Place}
@@ -28,7 +28,7 @@ use Rattle.partial_state.specs.Levels.{level_type}
 use Rattle.table_words.specs.Pins.{pinned_kind}
 use Rattle.table_entries.proofs.Shared.{gave_came, ref_came}
 use Rattle.course_laws.proofs.Stopping.{acquired_came}
-use Rattle.mmuext_ops.specs.Course.{PinEnds, Pinned, SawKind, SetsPin, acquired, lost, pinned, pinned_before, raced, refused, seen, unreferred}
+use Rattle.mmuext_ops.specs.Course.{PinEnds, Pinned, SawKind, SetsPin, is_pinned, acquired, lost, pinned, pinned_before, raced, refused, seen, unreferred}
 use Rattle.whole_trees.specs.Whole.{IsToldBySteps, IsWholeTree, WasPinned}
 use Rattle.whole_trees.proofs.Hands.{came_more, run_told, told_on}
 use Rattle.whole_trees.proofs.Behind.{IsBehind, is_behind}
@@ -43,6 +43,7 @@ pub record SetsIt (v w : PortValue) (f : ℕ) (t : PageType) : Type 0 where
   pub before : Came v from
   pub has : HasTyped f t from.holdings
   pub word : ℕ
+  pub off : is_pinned word ≡ false
   pub sets : SetsPin from w f word word
 
 looked_has : (v u : PortValue) (f x : ℕ) (t : PageType) → SawKind v u f x → HasTyped f t v.holdings → HasTyped f t u.holdings
@@ -50,7 +51,7 @@ looked_has v u f x t saw has = as_typed f t v.holdings u.holdings (ap (λ (y : P
 
 set_by_end : (v e w : PortValue) (f level : ℕ) (r : Result (Unit {0}) Stop) → Came v e → HasTyped f (level_type level) e.holdings → PinEnds e w f level r → r ≡ Ok tt → SetsIt v w f (level_type level)
 set_by_end v e w f level _ came has (pinned u x saw off sets) is =
-    record { from = u; before = came_trans v e u came (moves_came e u (Kind f) Load kinds.Look None x saw); has = looked_has e u f x (level_type level) saw has; word = x; sets = sets }
+    record { from = u; before = came_trans v e u came (moves_came e u (Kind f) Load kinds.Look None x saw); has = looked_has e u f x (level_type level) saw has; word = x; off = off; sets = sets }
 set_by_end v e w f level _ came has (seen u x saw on gone) is = absurd cc
 set_by_end v e w f level _ came has (raced u y x found saw off tried away on gone) is = absurd cc
 set_by_end v e w f level _ came has (lost u y x found saw off tried away still gone) is = absurd cc
@@ -91,20 +92,22 @@ module _ (n : Machine) (opening : List ℕ) (log : List (ℕ × Step)) (b : Stat
       subst (λ m. IsToldBySteps m s set.from.holdings) machine
       (told_on v set.from set.before (subst (λ m. IsToldBySteps m s v.holdings) (sym machine) told))
 
-  there : IsBehind n opening log s (Kind f) (Cas set.word new) set.word set.from.holdings.steps
-  there = is_behind n opening log b later s set.from w (Kind f) (Cas set.word new) kinds.Kind set.word sound runs run own is set.sets
+  there : IsBehind n opening log s (Kind f) (Cas set.word new) set.word v.holdings.steps w.holdings.steps set.from.holdings.steps
+  there =
+      let more = came_more v set.from set.before in
+      is_behind n opening log b later s set.from w (Kind f) (Cas set.word new) kinds.Kind set.word sound runs run own is set.sets v.holdings.steps more.0 w.holdings.steps [] more.1 refl
 
   -- ---- the moment before it
   state_before : SoundState n there.before.words there.before.hands
-  state_before = state n opening s sound runs there.before there.earlier there.way
+  state_before = state n opening s sound runs there.before there.set.earlier there.set.run
 
   hand_before : hand_of there.before.hands s ≡ set.from.holdings
-  hand_before = run_told n opening s sound runs there.before there.earlier there.way ∙ ap (λ xs. hands_of n s xs) there.steps ∙ sym told_from
+  hand_before = run_told n opening s sound runs there.before there.set.earlier there.set.run ∙ ap (λ xs. hands_of n s xs) there.steps ∙ sym told_from
 
   kind_before : k.kind ≡ t
   kind_before =
       ap (λ y. (kind_fields y).kind) (sym there.found_there)
-      ∙ first_typed (word_at n there.before) f t (hand_of there.before.hands s) (subst (HasTyped f t) (sym hand_before) set.has) (state_before.sound.counts.kinds.typed s there.vcpu)
+      ∙ first_typed (word_at n there.before) f t (hand_of there.before.hands s) (subst (HasTyped f t) (sym hand_before) set.has) (state_before.sound.counts.kinds.typed s there.set.made.vcpu)
 
   -- ---- the moment behind it
   kind_now : kind_at (word_at n there.moment) f ≡ pinned_kind k
@@ -116,14 +119,13 @@ module _ (n : Machine) (opening : List ℕ) (log : List (ℕ × Step)) (b : Stat
   typed_now : (kind_at (word_at n there.moment) f).kind ≡ t
   typed_now = ap (λ (y : KindWord). y.kind) kind_now ∙ kind_before
 
-  pub was_pinned : WasPinned n opening log f t
+  pub was_pinned : WasPinned n opening log s v.holdings.steps w.holdings.steps f t
   was_pinned =
       record {
-        newer = there.newer;
-        older = there.older;
-        parts = there.parts;
+        before = there.before;
         moment = there.moment;
-        run = there.run;
+        set = there.set;
+        unpinned = ap (λ y. (kind_fields y).pinned) there.found_there ∙ set.off;
         pinned = on;
         kind = typed_now;
         whole = subst (λ u. IsWholeTree n (word_at n there.moment) f u) typed_now (pinned_whole n (word_at n there.moment) (hand_of there.moment.hands) (state n opening s sound runs there.moment there.older there.run).sound f on).1;
@@ -131,7 +133,7 @@ module _ (n : Machine) (opening : List ℕ) (log : List (ℕ × Step)) (b : Stat
 
 pub pin_was_set : RunsSound → (n : Machine) (opening : List ℕ) (log : List (ℕ × Step)) (b : State) (v w z : PortValue) (d f level : ℕ) (answers : List Bool) →
     SoundWords n opening → Run n (start n opening) log b → v.post.machine ≡ n → IsToldBySteps n v.post.vcpu v.holdings → (hand_of b.hands v.post.vcpu).steps ≡ z.holdings.steps →
-    1 ≤ level → Pinned v w d f level answers (Ok tt) → Came w z → WasPinned n opening log f (level_type level)
+    1 ≤ level → Pinned v w d f level answers (Ok tt) → Came w z → WasPinned n opening log v.post.vcpu v.holdings.steps w.holdings.steps f (level_type level)
 pin_was_set runs n opening log b v w z d f level answers sound run machine told is table pin goes =
     let more = came_more w z goes in
     was_pinned n opening log b more.0 v w f (level_type level) sound runs run machine told (is ∙ more.1) (set_by_pin v w d f level answers (Ok tt) table pin refl)

@@ -1,21 +1,23 @@
 -- What page tables in use lead to, as a plain property of the words.
-use Rattle.std.specs.Prelude.{◌≡◌, ◌≢◌, ℕ, ◌+◌, ◌<◌, ◌++◌, List, Some, IsTrue}
+use Rattle.std.specs.Prelude.{◌≡◌, ◌≢◌, ℕ, ◌+◌, ◌<◌, ◌++◌, ◌∷◌, List, Some, IsTrue, false}
 use Rattle.xp_words.specs.declared.kind.PageType.{PageType}
 use Rattle.xp_words.specs.declared.entry.Demand.TheVariants.{Bad, Typed}
 use Rattle.xp_words.specs.declared.place.Place.{Place}
 use Rattle.xp_words.specs.declared.kind.PageType.TheVariants.{L4}
-use Rattle.xp_words.specs.declared.place.Place.TheVariants.{Cell, Refs, Vcpu}
+use Rattle.xp_words.specs.declared.place.Place.TheVariants.{Cell, Kind, Refs, Vcpu}
 use Rattle.xp_words.specs.Entries.{demand_at}
 use Rattle.xp_words.specs.Machine.{Machine}
 use Rattle.xp_words.specs.PageTypes.{is_table}
 use Rattle.xp_words.specs.Places.{sizes_of}
 use Rattle.xp_board.specs.declared.holdings.Holdings.{Holdings}
+use Rattle.xp_board.specs.declared.holdings.Made.{Made}
 use Rattle.xp_board.specs.declared.step.Step.{Step}
 use Rattle.xp_board.specs.After.{hands_of}
 use Rattle.xp_board.specs.Lawful.{IsCountedAs}
 use Rattle.xp_board.specs.Readings.{domain_of, kind_at, owner_of, ref_count}
 use Rattle.xp_board.specs.Recorded.{names}
-use Rattle.xp_board.specs.Runs.{Run, State, start, word_at}
+use Rattle.xp_board.specs.Runs.{Run, State, StepsTo, place_of, start, word_at}
+use Rattle.xp_board.specs.Sound.{hand_of}
 use Rattle.xp_board.specs.Valid.{EntryPermitted}
 
 -- Frame f, as a table of type t, leads to a frame as one of type u: to itself, and where an entry of a table that it leads to asks that type of it.
@@ -46,24 +48,35 @@ pub record AllWhole (n : Machine) (m : Place → ℕ) : Type 0 where
 abbrev pub IsToldBySteps : Machine → ℕ → Holdings → Type 0
 IsToldBySteps n s h = h ≡ hands_of n s h.steps
 
--- At some moment of a run from the opening words frame f is pinned with type t, and whole.
-pub record WasPinned (n : Machine) (opening : List ℕ) (log : List (ℕ × Step)) (f : ℕ) (t : PageType) : Type 0 where
+-- A step of vCPU s at that word leads from one moment of a run to the next. It had made these steps first, before it; and made the last of these with it, or later.
+pub record IsSetIn (n : Machine) (opening : List ℕ) (log : List (ℕ × Step)) (s : ℕ) (first last : List Made) (p : Place) (before moment : State) : Type 0 where
   pub newer : List (ℕ × Step)
-  pub older : List (ℕ × Step)
-  pub parts : log ≡ newer ++ older
+  pub earlier : List (ℕ × Step)
+  pub step : Step
+  pub parts : log ≡ newer ++ ((s, step) ∷ earlier)
+  pub run : Run n (start n opening) earlier before
+  pub made : StepsTo n before s step moment
+  pub place : place_of n step ≡ p
+  pub since : List Made
+  pub begins : (hand_of before.hands s).steps ≡ since ++ first
+  pub later : List Made
+  pub ends : last ≡ later ++ (hand_of moment.hands s).steps
+
+-- By such a step of vCPU s frame f, which had no pin, was pinned with type t; and it was whole then.
+pub record WasPinned (n : Machine) (opening : List ℕ) (log : List (ℕ × Step)) (s : ℕ) (first last : List Made) (f : ℕ) (t : PageType) : Type 0 where
+  pub before : State
   pub moment : State
-  pub run : Run n (start n opening) older moment
+  pub set : IsSetIn n opening log s first last (Kind f) before moment
+  pub unpinned : (kind_at (word_at n before) f).pinned ≡ false
   pub pinned : IsTrue (kind_at (word_at n moment) f).pinned
   pub kind : (kind_at (word_at n moment) f).kind ≡ t
   pub whole : IsWholeTree n (word_at n moment) f t
 
--- At some moment of it that base of vCPU s (0: the kernel's, 1: the user's) names frame f, a top table of the vCPU's own domain, and whole.
-pub record WasBase (n : Machine) (opening : List ℕ) (log : List (ℕ × Step)) (s k f : ℕ) : Type 0 where
-  pub newer : List (ℕ × Step)
-  pub older : List (ℕ × Step)
-  pub parts : log ≡ newer ++ older
+-- By such a step that base of vCPU s (0: the kernel's, 1: the user's) came to name frame f, a top table of the vCPU's own domain, and whole.
+pub record WasBase (n : Machine) (opening : List ℕ) (log : List (ℕ × Step)) (s : ℕ) (first last : List Made) (k f : ℕ) : Type 0 where
+  pub before : State
   pub moment : State
-  pub run : Run n (start n opening) older moment
+  pub set : IsSetIn n opening log s first last (Vcpu s k) before moment
   pub names : word_at n moment (Vcpu s k) ≡ f + 1
   pub owner : owner_of (word_at n moment (Refs f)) ≡ Some (domain_of n s)
   pub whole : IsWholeTree n (word_at n moment) f L4

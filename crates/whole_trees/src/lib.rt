@@ -1,10 +1,9 @@
 //! What page tables in use lead to, at each moment between two steps of any vCPUs. These functions do nothing: their contracts are laws.
 #![tactic(auto)]
 
-ghost use Rattle.std.specs.Prelude.{◌≡◌, ◌+◌, ◌<◌, ◌≤◌, ℕ, slice_get, Bool, IsTrue, List, Ok, Option, Some};
+ghost use Rattle.std.specs.Prelude.{◌≡◌, ◌≤◌, ℕ, Bool, IsTrue, List, Ok, Some};
 ghost use Rattle.xp_words.specs.declared.kind.PageType.{PageType};
 ghost use Rattle.xp_words.specs.declared.place.Place.{Place};
-ghost use Rattle.xp_words.specs.declared.ops.ExtOp.{ExtOp};
 ghost use Rattle.xp_words.specs.Machine.{Machine};
 ghost use Rattle.xp_words.specs.PageTypes.{is_table};
 ghost use Rattle.xp_board.specs.declared.holdings.Holdings.{Holdings};
@@ -20,7 +19,6 @@ ghost use Rattle.table_bases.specs.Course.{SetsBase};
 ghost use Rattle.table_bases.specs.Holding.{base_number};
 ghost use Rattle.table_bases.specs.declared.words.Base.{Base};
 ghost use Rattle.mmuext_ops.specs.Course.{Pinned};
-ghost use Rattle.vcpu_turn.specs.Ext.{ExtFits};
 ghost use Rattle.whole_trees.specs.Whole.{AllWhole, IsToldBySteps, IsWholeTree, LeadsDown, WasBase, WasPinned};
 
 use sound_rule::every_run_stays_sound;
@@ -44,30 +42,22 @@ pub fn a_frame_has_one_type_in_all_trees()
 {}
 
 /// A pin that is done, from port `v` to port `w` of a vCPU that holds what its own steps tell, and whose steps up to a later port `z` stand on a run from
-/// sound words: at the moment of that run behind the last step of the pin the frame was pinned as a table of that level, and all that it leads to validated.
+/// sound words: one of the steps between `v` and `w` set the mark, and at the moment of that run behind it the frame was pinned as a table of that level,
+/// and all that it leads to validated.
 pub fn a_pin_that_is_done_is_whole_as_it_is_set()
     ensures { (n : Machine) (opening : List ℕ) (log : List (ℕ × Step)) (b : State) (v w z : PortValue) (d f level : ℕ) (answers : List Bool) →
         SoundWords n opening → Run n (start n opening) log b → v.post.machine ≡ n → IsToldBySteps n v.post.vcpu v.holdings → (hand_of b.hands v.post.vcpu).steps ≡ z.holdings.steps →
-        1 ≤ level → Pinned v w d f level answers (Ok tt) → Came w z → WasPinned n opening log f (level_type level) }
+        1 ≤ level → Pinned v w d f level answers (Ok tt) → Came w z → WasPinned n opening log v.post.vcpu v.holdings.steps w.holdings.steps f (level_type level) }
 {
     every_run_stays_sound();
 }
 
-/// A new base that is set, the kernel's or the user's: at the moment behind the store the word names the frame, which is a top table of the vCPU's own domain, and all
-/// that it leads to is validated.
+/// A new base that is set, the kernel's or the user's: one of the steps between `v` and `w` is at that word, and at the moment behind it the word names the frame,
+/// which is a top table of the vCPU's own domain, and all that it leads to is validated.
 pub fn a_base_that_is_set_is_whole_as_it_is_stored()
     ensures { (n : Machine) (opening : List ℕ) (log : List (ℕ × Step)) (b : State) (v w z : PortValue) (base : Base) (f : ℕ) (answers : List Bool) →
         SoundWords n opening → Run n (start n opening) log b → v.post.machine ≡ n → (hand_of b.hands v.post.vcpu).steps ≡ z.holdings.steps → SetsBase v w base (Some f) answers (Ok tt) → Came w z →
-        WasBase n opening log v.post.vcpu (base_number base) f }
-{
-    every_run_stays_sound();
-}
-
-/// A pin that is an element of a list of `mmuext_op`, by commands 0 to 3, and that a turn did.
-pub fn a_pin_in_a_list_is_whole_as_it_is_set()
-    ensures { (n : Machine) (opening : List ℕ) (log : List (ℕ × Step)) (b : State) (v w z : PortValue) (d from k : ℕ) (awaited : Option ℕ) (list : List ExtOp) (op : ExtOp) (answers : List Bool) →
-        SoundWords n opening → Run n (start n opening) log b → v.post.machine ≡ n → IsToldBySteps n v.post.vcpu v.holdings → (hand_of b.hands v.post.vcpu).steps ≡ z.holdings.steps →
-        slice_get list k ≡ Some op → op.command < 4 → ExtFits d list from awaited k v w answers (Ok tt) → Came w z → WasPinned n opening log op.first (level_type (op.command + 1)) }
+        WasBase n opening log v.post.vcpu v.holdings.steps w.holdings.steps (base_number base) f }
 {
     every_run_stays_sound();
 }
